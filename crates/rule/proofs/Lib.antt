@@ -1,0 +1,16 @@
+pub mod Payments
+pub mod Ints
+pub mod Sums
+pub mod Kernel
+pub mod Find
+pub mod Bounds
+pub mod Steps
+pub mod Chain
+pub mod Cover
+pub mod Release
+pub mod Verdict
+pub mod Queues
+pub mod Money
+pub mod Day
+pub mod Situations
+pub mod Demands

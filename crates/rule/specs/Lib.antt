@@ -1,0 +1,12 @@
+pub mod Kernel
+pub mod Payment
+pub mod Queue
+pub mod House
+pub mod Verdict
+pub mod Day
+pub mod Situations
+pub mod Paper
+pub mod Bounds
+pub mod Chain
+pub mod Cover
+pub mod Ints
