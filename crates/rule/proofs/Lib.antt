@@ -5,6 +5,7 @@ pub mod Kernel
 pub mod Find
 pub mod Bounds
 pub mod Steps
+pub mod Table
 pub mod Chain
 pub mod Cover
 pub mod Release

@@ -2,6 +2,7 @@ pub mod Kernel
 pub mod Payment
 pub mod Queue
 pub mod House
+pub mod Table
 pub mod Verdict
 pub mod Day
 pub mod Situations
