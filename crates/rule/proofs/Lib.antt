@@ -1,3 +1,4 @@
+pub mod Lists
 pub mod Payments
 pub mod Ints
 pub mod Sums

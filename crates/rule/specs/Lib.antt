@@ -1,3 +1,4 @@
+pub mod Lists
 pub mod Kernel
 pub mod Payment
 pub mod Queue

@@ -1,0 +1,7 @@
+pub mod Tops
+pub mod Positions
+pub mod Cover
+pub mod Off
+pub mod Rounds
+pub mod Start
+pub mod Counts

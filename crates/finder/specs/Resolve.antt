@@ -1,0 +1,36 @@
+-- A resolution, from everything down: what it asks, and what it promises (document 01, "Resolve"; demand 2).
+use mathlib.Core.Path.{_≡_}
+use mathlib.Core.List.{List}
+use Prim.Native.Nat.{ℕ, _≤_, _<_}
+use lib.IntN.{ℤ, pos}
+use lib.Signed.{_≤ℤ_}
+use lib.ListN.{length, getD, take}
+use Rattle.rule.specs.Ints.{up}
+use Rattle.rule.specs.House.{House, position, Sound, LargestSet}
+use Rattle.rule.specs.Table.{queueOf, Payers}
+use Rattle.finder.specs.Tops.{countsOf, Topped}
+use Rattle.finder.specs.Positions.{Entering}
+
+-- the house that the lists hold
+abbrev pub houseOf : ℕ → List ℕ → List ℤ → List ℤ → House
+houseOf used pays balances lines = record {
+  line = λ i. up (getD lines i (pos 0));
+  balance = λ i. getD balances i (pos 0);
+  queue = λ i. queueOf i (take used pays);
+}
+
+-- the lists hold a sound house of n members, whose payments can be entered
+pub record Sits (n used : ℕ) (pays : List ℕ) (balances lines : List ℤ) (tops : List ℕ) : Type 0 where
+  pub members : n ≤ 64
+  pub entering : Entering used pays balances
+  pub each-line : length lines ≡ 64
+  pub each-top : length tops ≡ 64
+  pub nonneg : (i : ℕ) → i < n → pos 0 ≤ℤ getD lines i (pos 0)
+  pub payers : Payers n (take used pays)
+  pub sound : Sound n (houseOf used pays balances lines)
+
+-- the payments below the tops are the largest set, and the positions are the balances once it is booked
+pub record Resolved (n used : ℕ) (pays : List ℕ) (balances lines positions : List ℤ) (tops : List ℕ) : Type 0 where
+  pub topped : Topped used pays tops
+  pub largest : LargestSet n (houseOf used pays balances lines) (countsOf pays tops)
+  pub booked : (i : ℕ) → i < n → getD positions i (pos 0) ≡ position n (houseOf used pays balances lines) (countsOf pays tops) i

@@ -1,0 +1,39 @@
+-- Which payments are in, told by one place for each of 64 members: of the payments at the first `used` places of the table, those of a
+-- member that stand below its top.
+use mathlib.Core.Path.{_≡_}
+use mathlib.Core.List.{List, [], _∷_, _++_}
+use Prim.Native.Nat.{ℕ, _≤_, _<_}
+use lib.ListN.{length, getD, take}
+use Rattle.rule.specs.Kernel.{Counts, sum}
+use Rattle.rule.specs.Payment.{payerOf}
+use Rattle.rule.specs.Table.{queueOf}
+
+-- how many payments of each member stand below its top
+abbrev pub countsOf : List ℕ → List ℕ → Counts
+countsOf pays tops i = length (queueOf i (take (getD tops i 0) pays))
+
+-- the sum of the tops
+unfoldable pub height : List ℕ → ℕ
+height tops = sum 64 (λ i. getD tops i 0)
+
+-- each member has a top, at most at the end of the used places
+pub record Topped (used : ℕ) (pays tops : List ℕ) : Type 0 where
+  pub places : used ≤ length pays
+  pub each : length tops ≡ 64
+  pub within : (i : ℕ) → i < 64 → getD tops i 0 ≤ used
+
+-- every payment of every member is in
+pub record AllIn (used : ℕ) (tops : List ℕ) : Type 0 where
+  pub each : length tops ≡ 64
+  pub whole : (i : ℕ) → i < 64 → getD tops i 0 ≡ used
+
+-- the last payment of member i below its top stands at this place
+pub record LastAt (pays : List ℕ) (top i place : ℕ) : Type 0 where
+  pub under : place < top
+  pub payer : payerOf (getD pays place 0) ≡ i
+  pub last : queueOf i (take top pays) ≡ queueOf i (take place pays) ++ (getD pays place 0 ∷ [])
+
+-- the list holds, for each member, how many of its payments stand below its top
+pub record CountsBelow (pays tops counts : List ℕ) : Type 0 where
+  pub each : length counts ≡ 64
+  pub below : (i : ℕ) → i < 64 → getD counts i 0 ≡ countsOf pays tops i

@@ -1,0 +1,212 @@
+// The finder of the largest allowed set. Everything is in at first; round by round the last payment of each short member is taken
+// off, until none is short. Which payments are in is told by the tops: those of a member that stand below its top.
+ghost use mathlib.Core.Path.{_≡_};
+ghost use Prim.Native.Nat.{_+_, _<_, _≤_};
+ghost use lib.IntN.{pos, _-ℤ_};
+ghost use lib.Signed.{_≤ℤ_, ltZ};
+ghost use lib.ListN.{length, getD, take};
+ghost use Rattle.rule.specs.Payment.{payerOf, payeeOf, amountOf};
+ghost use Rattle.rule.specs.Table.{queueOf};
+ghost use Rattle.finder.specs.Limits.{far, mostAmount, mostPlaces, farPosition};
+ghost use Rattle.finder.specs.Tops.{Topped, LastAt, AllIn, CountsBelow};
+ghost use Rattle.finder.specs.Positions.{added, moved, Steady, Entering, Entered};
+ghost use Rattle.finder.specs.Finder.{Ready, TakenOff, Off, Stepped, Rounded, FoundSet};
+ghost use Rattle.finder.specs.Resolve.{Sits, Resolved};
+
+// Finds the largest set: the payments below the tops. The positions hold the balances before, and then the balances as they stand
+// once that set is booked.
+pub fn resolve<'a>(
+    pays: &'a [u64],
+    used: usize,
+    positions: &mut [i64],
+    lines: &'a [i64],
+    tops: &mut [usize],
+    count: usize,
+)
+    requires { ⌜ Sits count used (now pays) (now positions) (now lines) (now tops) ⌝ }
+    ensures { λ _. ⌜ Resolved count used (now (pays .entry)) (now (positions .entry)) (now (lines .entry)) (now (positions .exit)) (now (tops .exit)) ⌝ }
+{
+    enter_all(pays, used, positions);
+    all_in(tops, used);
+    find(pays, used, positions, lines, tops, count);
+}
+
+// Takes payments off, from any tops around the largest set, until no member is short.
+pub fn find<'a>(
+    pays: &'a [u64],
+    used: usize,
+    positions: &mut [i64],
+    lines: &'a [i64],
+    tops: &mut [usize],
+    count: usize,
+)
+    requires { ⌜ Ready count used (now pays) (now positions) (now lines) (now tops) ⌝ }
+    ensures { λ _. ⌜ FoundSet count used (now (pays .entry)) (now (lines .entry)) (now (positions .entry)) (now (positions .exit)) (now (tops .entry)) (now (tops .exit)) ⌝ }
+{
+    let mut again = true;
+    while again {
+        again = round(pays, used, positions, lines, tops, count);
+    }
+}
+
+// How many payments of each member stand below its top.
+pub fn count_below<'a>(pays: &'a [u64], used: usize, tops: &'a [usize]) -> [u16; 64]
+    requires { ⌜ Topped used (now pays) (now tops) ⌝ }
+    requires { ⌜ used ≤ mostPlaces ⌝ }
+    ensures { λ r. ⌜ CountsBelow (now (pays .entry)) (now (tops .entry)) r ⌝ }
+{
+    let mut counts = [0u16; 64];
+    let mut m = 0;
+    while m < used {
+        let w = pays[m];
+        let payer = rule::payer_of(w);
+        if m < tops[payer] {
+            counts[payer] += 1;
+        }
+        m += 1;
+    }
+    counts
+}
+
+// One round: a payment off each short member. Whether there was one.
+fn round<'a>(
+    pays: &'a [u64],
+    used: usize,
+    positions: &mut [i64],
+    lines: &'a [i64],
+    tops: &mut [usize],
+    count: usize,
+) -> bool
+    requires { ⌜ Ready count used (now pays) (now positions) (now lines) (now tops) ⌝ }
+    ensures { λ r. ⌜ Rounded r count used count (now (pays .entry)) (now (lines .entry)) (now (positions .entry)) (now (positions .exit)) (now (tops .entry)) (now (tops .exit)) ⌝ }
+{
+    let mut any = false;
+    let mut member = 0;
+    while member < count {
+        if step(pays, used, positions, lines, tops, count, member) {
+            any = true;
+        }
+        member += 1;
+    }
+    any
+}
+
+// Takes a payment off the member if it is short. Whether it was.
+fn step<'a>(
+    pays: &'a [u64],
+    used: usize,
+    positions: &mut [i64],
+    lines: &'a [i64],
+    tops: &mut [usize],
+    count: usize,
+    member: usize,
+) -> bool
+    requires { ⌜ Ready count used (now pays) (now positions) (now lines) (now tops) ⌝ }
+    requires { ⌜ member < count ⌝ }
+    ensures { λ r. ⌜ Stepped r (now (pays .entry)) member (now (lines .entry)) (now (positions .entry)) (now (positions .exit)) (now (tops .entry)) (now (tops .exit)) ⌝ }
+{
+    let position = positions[member];
+    let line = lines[member];
+    if is_short(position, line) {
+        take_off(pays, positions, tops, member);
+        return true;
+    }
+    false
+}
+
+// Whether a position is below minus the line. Exactly there is enough.
+pub fn is_short(position: i64, line: i64) -> bool
+    requires { ⌜ pos 0 ≤ℤ line ⌝ }
+    ensures { λ r. ⌜ r ≡ ltZ position (pos 0 -ℤ line) ⌝ }
+{
+    position < -line
+}
+
+// Takes the member's last payment below its top off: the payer has the amount back, and the top is where the payment stood.
+fn take_off(pays: &[u64], positions: &mut [i64], tops: &mut [usize], member: usize)
+    requires { ⌜ Off (now pays) (now positions) (now tops) member ⌝ }
+    ensures { λ _. ⌜ TakenOff (now (pays .entry)) member (now (positions .entry)) (now (positions .exit)) (now (tops .entry)) (now (tops .exit)) ⌝ }
+{
+    let top = tops[member];
+    let place = last_of(pays, top, member);
+    let w = pays[place];
+    let payee = rule::payee_of(w);
+    let amount = rule::amount_of(w);
+    transfer(positions, payee, member, amount);
+    tops[member] = place;
+}
+
+// The place of the member's last payment below its top. It has one.
+fn last_of(pays: &[u64], top: usize, member: usize) -> usize
+    requires { ⌜ top ≤ length (now pays) ⌝ }
+    requires { ⌜ 0 < length (queueOf member (take top (now pays))) ⌝ }
+    ensures { λ r. ⌜ LastAt (now (pays .entry)) top member r ⌝ }
+{
+    let mut i = top - 1;
+    let mut w = pays[i];
+    let mut payer = rule::payer_of(w);
+    while payer != member {
+        i -= 1;
+        w = pays[i];
+        payer = rule::payer_of(w);
+    }
+    i
+}
+
+// Enters the first `used` payments into positions that hold the balances.
+fn enter_all(pays: &[u64], used: usize, positions: &mut [i64])
+    requires { ⌜ Entering used (now pays) (now positions) ⌝ }
+    ensures { λ _. ⌜ Entered used (now (pays .entry)) (now (positions .entry)) (now (positions .exit)) ⌝ }
+{
+    let mut m = 0;
+    while m < used {
+        let w = pays[m];
+        enter(positions, w);
+        m += 1;
+    }
+}
+
+// Enters one payment: its amount goes from the payer to the payee.
+pub fn enter(positions: &mut [i64], w: u64)
+    requires { ⌜ Steady (now positions) ⌝ }
+    requires { ⌜ amountOf w ≤ mostAmount ⌝ }
+    ensures { λ _. ⌜ now (positions .exit) ≡ moved (now (positions .entry)) (payerOf w) (payeeOf w) (amountOf w) ⌝ }
+{
+    let payer = rule::payer_of(w);
+    let payee = rule::payee_of(w);
+    let amount = rule::amount_of(w);
+    transfer(positions, payer, payee, amount);
+}
+
+// The amount goes from one member's position to another's.
+fn transfer(positions: &mut [i64], giver: usize, taker: usize, amount: u64)
+    requires { ⌜ Steady (now positions) ⌝ }
+    requires { ⌜ (giver < 64) × (taker < 64) × (amount ≤ mostAmount) ⌝ }
+    ensures { λ _. ⌜ now (positions .exit) ≡ moved (now (positions .entry)) giver taker amount ⌝ }
+{
+    let by = amount as i64;
+    add(positions, giver, -by);
+    add(positions, taker, by);
+}
+
+// One position changes by an amount.
+fn add(positions: &mut [i64], member: usize, by: i64)
+    requires { do ⌜ member < (← ⟦positions.len()⟧) ⌝ }
+    requires { ⌜ far by ≤ mostAmount ⌝ }
+    requires { ⌜ far (getD (now positions) member (pos 0)) ≤ farPosition + mostAmount ⌝ }
+    ensures { λ _. ⌜ now (positions .exit) ≡ added (now (positions .entry)) member by ⌝ }
+{
+    positions[member] = positions[member] + by;
+}
+
+// Every payment of every member is in.
+fn all_in(tops: &mut [usize], used: usize)
+    requires { ⌜ length (now tops) ≡ 64 ⌝ }
+    ensures { λ _. ⌜ AllIn used (now (tops .exit)) ⌝ }
+{
+    let mut i = 0;
+    while i < 64 {
+        tops[i] = used;
+        i += 1;
+    }
+}

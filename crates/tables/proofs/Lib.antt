@@ -1,0 +1,6 @@
+pub mod Tests
+pub mod Every
+pub mod Balances
+pub mod Counting
+pub mod States
+pub mod Houses

@@ -1,0 +1,43 @@
+-- What stands where in the three lent lists: a (accounts), c (counters) and p (places). See docs/TABLES.md. Members are counted from 0.
+use mathlib.Core.List.{List}
+use Prim.Native.Nat.{ℕ, _+_}
+use lib.IntN.{ℤ, pos}
+use lib.ListN.{getD, take}
+use Rattle.rule.specs.Ints.{up}
+use Rattle.rule.specs.House.{House, money}
+use Rattle.rule.specs.Table.{queueOf}
+use Rattle.tables.specs.Sizes.{members}
+
+-- how many members the house has
+abbrev pub countOf : List ℕ → ℕ
+countOf c = getD c 0 0
+
+-- how many payments wait
+abbrev pub waitingOf : List ℕ → ℕ
+waitingOf c = getD c 1 0
+
+-- the last number that was accepted of member i
+abbrev pub lastOf : List ℕ → ℕ → ℕ
+lastOf c i = getD c (64 + i) 0
+
+-- how many payments of member i were settled
+abbrev pub settledOf : List ℕ → ℕ → ℕ
+settledOf c i = getD c (128 + i) 0
+
+abbrev pub balanceOf : List ℤ → ℕ → ℤ
+balanceOf a i = getD a i (pos 0)
+
+abbrev pub lineOf : List ℤ → ℕ → ℤ
+lineOf a i = getD a (64 + i) (pos 0)
+
+-- the waiting payments
+abbrev pub wordsOf : List ℕ → List ℕ → List ℕ
+wordsOf c p = take (waitingOf c) p
+
+-- the sum of all balances
+abbrev pub moneyOf : List ℤ → ℤ
+moneyOf a = money members (balanceOf a)
+
+-- the house that the lists hold, as the rule speaks of it
+abbrev pub houseOf : List ℤ → List ℕ → List ℕ → House
+houseOf a c p = record { line = λ i. up (lineOf a i); balance = balanceOf a; queue = λ i. queueOf i (wordsOf c p) }

@@ -1,0 +1,5 @@
+pub mod Sizes
+pub mod Layout
+pub mod Holds
+pub mod State
+pub mod Needs

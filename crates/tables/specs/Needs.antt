@@ -1,0 +1,18 @@
+-- What the functions that act on tables ask of them.
+use mathlib.Core.List.{List}
+use Prim.Native.Nat.{ℕ, _≤_, _<_}
+use lib.IntN.{ℤ}
+use lib.ListN.{length}
+use Rattle.rule.specs.Ints.{up, down}
+use Rattle.tables.specs.Sizes.{highest}
+use Rattle.tables.specs.Layout.{balanceOf}
+
+-- z is at most m from zero
+pub record Near (m : ℕ) (z : ℤ) : Type 0 where
+  pub above : up z ≤ m
+  pub below : down z ≤ m
+
+-- no balance is further from zero than the highest, so that none of their sums can wrap
+pub record Bounded (a : List ℤ) : Type 0 where
+  pub long : 512 ≤ length a
+  pub near : (i : ℕ) → i < 64 → Near highest (balanceOf a i)

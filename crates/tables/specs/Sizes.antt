@@ -1,0 +1,31 @@
+-- The fixed numbers of the house (document 01, "What a house holds"). The code has each once too, as a constant of the house, and
+-- `tables::tied` promises that they are the same.
+use Prim.Native.Nat.{ℕ}
+
+-- at most so many members
+abbrev pub members : ℕ
+members = 64
+
+-- at most so many payments wait
+abbrev pub places : ℕ
+places = 2048
+
+-- the least length of the accounts, and of the counters
+abbrev pub table : ℕ
+table = 512
+
+-- an amount, a deposit and a line are at most this
+abbrev pub limit : ℕ
+limit = 1_000_000_000_000
+
+-- the sum of all balances is at most this
+abbrev pub most : ℕ
+most = 1_000_000_000_000_000
+
+-- one balance is at most this
+abbrev pub highest : ℕ
+highest = 2_000_000_000_000_000
+
+-- the last number that a payer can give
+abbrev pub lastNumber : ℕ
+lastNumber = 4_294_967_295
