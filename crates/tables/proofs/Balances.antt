@@ -1,4 +1,5 @@
--- Accounts in order hold balances near zero, so that no sum of them wraps; and one balance is bounded by the sum of all.
+-- Accounts in order hold balances near zero, so that no sum of them wraps; and where the sum of all is bounded above and each balance
+-- below, each is bounded above.
 use mathlib.Core.Path.{_≡_}
 use mathlib.Core.Bool.{Bool, true, false, cond, _&&_}
 use mathlib.Core.List.{List}
@@ -85,6 +86,8 @@ module _ (m : ℕ) (b : ℕ → ℤ) where
           → up (b k) + down (money (suc n) b) ≤ suc n * m + up (money (suc n) b) + down (b k)
       go (yes e) ih = rw e (omega (arith, sum-low n (λ i h. f i (omega arith)), plus (money n b) (b n)))
       go (no e) ih = omega (arith, ih (omega arith), f n (omega arith), plus (money n b) (b n))
+
+-- ---- the balances of what holds document 01's list
 
 low-of : (m : ℕ) (z : ℤ) → down z ≤ m + up z → down z ≤ m
 low-of m (pos n) h = omega arith

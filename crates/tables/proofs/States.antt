@@ -55,6 +55,7 @@ pub record Counters (c : List ℕ) : Type 0 where
   pub spare : every (zeroAt c 2) 62 ≡ true
   pub later : every (zeroAt c 192) 320 ≡ true
 
+-- counters that pass are in order
 pub counters-are : (c : List ℕ) → countersOk c ≡ true → Counters c
 unfolding countersOk
 counters-are c e =

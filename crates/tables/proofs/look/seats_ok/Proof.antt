@@ -38,7 +38,10 @@ account-ok-requires : tie.Need-account-ok-requires Inv-loop μ-loop
 account-ok-requires c κs = search needs
 
 answer : (c : tie.After-account-ok Inv-loop μ-loop) → c .account-ok .result ≡ accountAt (c .before .before .before .before .before .args .n) (c .before .before .before .before .before .args .accounts .now) (c .before .before .before .before .loop .i)
-answer c = let g = c .before .before .account-ok-arg .given in let h = c .before .account-ok-arg2 .given in simp plain at (c .account-ok .ensures)
+answer c =
+    let g = c .before .before .account-ok-arg .given in
+    let h = c .before .account-ok-arg2 .given in
+    simp plain at (c .account-ok .ensures)
 
 returns : tie.Need-returns Inv-loop μ-loop
 returns c = every-fail (c .before .before .before .before .before .loop .inv) (omega arith) (flag-no (answer (c .before)) (c .if1 .taken))
