@@ -8,15 +8,20 @@ use native.Mathlib.Decide.{ℕ-discrete, decLt}
 use native.Mathlib.Numerals.{add-one}
 use native.Mathlib.Omega.{arith}
 use lib.Dec.{ltb}
+use lib.IntN.{ℤ}
 use lib.ListN.{length, getD, set, take, length-append, length-set, replicate, length-replicate, getD-replicate}
 use lib.Seq.{take-suc, length-take-le, getD-set-same, getD-set-other}
 use borrow.Author.Tests.{lt-ltb, le-ltb}
 use Rattle.rule.specs.Payment.{payerOf}
+use Rattle.rule.specs.House.{LargestSet}
 use Rattle.rule.specs.Table.{queueOf, leaving, staying}
 use Rattle.rule.proofs.Table.{queue-leaving, leaving-snoc, staying-snoc}
 use Rattle.rule.proofs.Sums.{eqb-same, eqb-other}
+use Rattle.rule.proofs.Kernel.{holds-cong}
 use Rattle.finder.specs.Tops.{countsOf, Topped, CountsBelow}
+use Rattle.finder.specs.Resolve.{houseOf, Resolved}
 use Rattle.finder.proofs.Tops.{payer-under, queue-append, queue-own, queue-grows}
+use Rattle.finder.proofs.Cover.{cover-lawful}
 
 module _ (pays tops : List ℕ) (m : ℕ) (h : m < length pays) where
   below-is : ltb (length (queueOf (payerOf (getD pays m 0)) (take m pays))) (countsOf pays tops (payerOf (getD pays m 0))) ≡ ltb m (getD tops (payerOf (getD pays m 0)) 0)
@@ -55,7 +60,8 @@ counted-start = record {
 }
 
 module _ {pays tops counts : List ℕ} {m : ℕ} (h : m < length pays) (d : Counted m pays tops counts) where
-  pub counted-in : {after : List ℕ} → m < getD tops (payerOf (getD pays m 0)) 0 → after ≡ set counts (payerOf (getD pays m 0)) (getD counts (payerOf (getD pays m 0)) 0 + 1) → Counted (m + 1) pays tops after
+  pub counted-in : {after : List ℕ} → m < getD tops (payerOf (getD pays m 0)) 0
+      → after ≡ set counts (payerOf (getD pays m 0)) (getD counts (payerOf (getD pays m 0)) 0 + 1) → Counted (m + 1) pays tops after
   counted-in low same =
       let e = lt-ltb m (getD tops (payerOf (getD pays m 0)) 0) low in
       let w = getD pays m 0 in
@@ -87,3 +93,17 @@ counted-end {pays} {tops} {counts} {used} t d = record {
   below = λ k l. d .gone k l ∙ ap length (queue-leaving k (take used pays) (countsOf pays tops))
       ∙ length-take-le (countsOf pays tops k) (queueOf k (take used pays)) (queue-grows pays used k (getD tops k 0) (t .within k l));
 }
+
+-- so the list of counts is the largest set where the tops are
+pub counted-largest : {n used : ℕ} {pays : List ℕ} {bs lines ys : List ℤ} {tops counts : List ℕ} → n ≤ 64 → Resolved n used pays bs lines ys tops → CountsBelow pays tops counts
+    → LargestSet n (houseOf used pays bs lines) (λ i. getD counts i 0)
+counted-largest {n} {used} {pays} {bs} {lines} {tops} {counts} members r d = record {
+  allowed = record {
+    within = λ i h. rw (same i h) (r .largest .allowed .within i h);
+    holds = λ i h. holds-cong (cover-lawful n (houseOf used pays bs lines)) i (countsOf pays tops) (λ j. getD counts j 0) h (λ j k. sym (same j k)) (r .largest .allowed .holds i h);
+  };
+  top = λ y a i h. rw (same i h) (r .largest .top y a i h);
+}
+  where
+    same : (i : ℕ) → i < n → getD counts i 0 ≡ countsOf pays tops i
+    same i h = d .below i (omega arith)

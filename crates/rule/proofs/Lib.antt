@@ -5,6 +5,7 @@ pub mod Sums
 pub mod Kernel
 pub mod Find
 pub mod Bounds
+pub mod Same
 pub mod Steps
 pub mod Table
 pub mod Chain

@@ -66,7 +66,7 @@ loop-again c =
       omega arith,
       ⊎-elim
           (λ w. counted-in (omega (arith, s .pre .0 .places)) (l .inv .1) (rw e at (w .0 .taken)) (rw e at (w .1)))
-          (λ w. counted-out (omega (arith, s .pre .0 .places)) (l .inv .1) (let high : getD (s .args .tops .now) (c .before .before .payer-of .result) 0 ≤ l .m = omega (arith, w .0 .left) in rw e at high) (w .1))
+          (λ w. counted-out (omega (arith, s .pre .0 .places)) (l .inv .1) (rw (← e) (omega (arith, w .0 .left))) (w .1))
           (c .if1 .came),
     )
 

@@ -18,7 +18,9 @@ amount-of-requires c κs = search needs
 transfer-requires : tie.Need-transfer-requires
 transfer-requires c κs =
     let s = c .before .before .before .before in
-    (s .pre .0, (omega (arith, payer-under (s .args .w)), omega (arith, payee-under (s .args .w)), omega (arith, s .pre .1)))
+    let payer = payer-under (s .args .w) in
+    let payee = payee-under (s .args .w) in
+    (s .pre .0, (omega arith, omega arith, omega (arith, s .pre .1)))
 
 same-length : tie.Need-same-length
 same-length c = search needs

@@ -19,8 +19,8 @@ abbrev μ-loop : tie.MeasureT-loop
 first : (s : tie.Start Inv-loop μ-loop) → (0 < s .args .top) × Seeking (s .args .pays .now) (s .args .top) (s .args .member) (s .args .top - 1)
 first s = seek-start (s .args .pays .now) (s .args .top) (s .args .member) (s .pre .1)
 
-next : (d : tie.At-loop Inv-loop μ-loop) → (d .loop .payer ≡ d .before .before .before .before .args .member → ⊥)
-    → (0 < d .loop .i) × Seeking (d .before .before .before .before .args .pays .now) (d .before .before .before .before .args .top) (d .before .before .before .before .args .member) (d .loop .i - 1)
+next : (d : tie.At-loop Inv-loop μ-loop) → let a = d .before .before .before .before .args in (d .loop .payer ≡ a .member → ⊥)
+    → (0 < d .loop .i) × Seeking (a .pays .now) (a .top) (a .member) (d .loop .i - 1)
 next d ne =
     let s = d .before .before .before .before in
     seek-next (s .args .pays .now) (s .args .top) (s .args .member) (d .loop .i) (s .pre .0) (s .pre .1) (d .loop .inv .1) (λ e. ne (d .loop .inv .0 ∙ e))

@@ -11,7 +11,9 @@ all-in-requires : tie.Need-all-in-requires
 all-in-requires c κs = search needs
 
 find-requires : tie.Need-find-requires
-find-requires c κs = ready-start (c .before .before .before .before .before .before .before .before .before .before .before .pre) (c .before .before .before .before .before .before .before .enter-all .ensures) (c .before .before .before .before .all-in .ensures)
+find-requires c κs =
+    let d = c .before .before .before .before in
+    ready-start (d .before .before .before .before .before .before .before .pre) (d .before .before .before .enter-all .ensures) (d .all-in .ensures)
 
 same-length : tie.Need-same-length
 same-length c = search needs
@@ -20,7 +22,9 @@ same-length-2 : tie.Need-same-length-2
 same-length-2 c = search needs
 
 returns : tie.Need-returns
-returns c = resolved (c .before .before .before .before .before .before .before .before .before .before .before .before .before .before .before .pre) (c .before .before .before .before .before .before .before .before .before .before .before .enter-all .ensures) (c .before .before .before .before .before .before .before .before .all-in .ensures) (c .before .before .before .find .ensures)
+returns c =
+    let d = c .before .before .before .before .before .before .before .before in
+    resolved (d .before .before .before .before .before .before .before .pre) (d .before .before .before .enter-all .ensures) (d .all-in .ensures) (c .before .before .before .find .ensures)
 
 pub resolve-spec : {M : Type 1} → statement M
 resolve-spec =

@@ -10,7 +10,7 @@ use borrow.Author.Needs.{needs}
 use Rattle.finder.proofs.step.Statement.{statement}
 use Rattle.finder.proofs.step.Tie as tie
 
-told : (d : tie.After-is-short) → Short (d .before .before .before .before .before .args .positions .now) (d .before .before .before .before .before .args .lines .now) (d .before .before .before .before .before .args .member) ≡ d .is-short .result
+told : (d : tie.After-is-short) → let a = d .before .before .before .before .before .args in Short (a .positions .now) (a .lines .now) (a .member) ≡ d .is-short .result
 told d =
     let s = d .before .before .before .before .before in
     let f = held (getD (s .args .positions .now) (s .args .member) (pos 0)) (d .before .before .position .given) in

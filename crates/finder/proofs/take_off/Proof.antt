@@ -31,14 +31,10 @@ amount-of-requires c κs = search needs
 transfer-requires : tie.Need-transfer-requires
 transfer-requires c κs =
     let s = c .before .before .before .before .before .before .before .before in
-    let l = c .before .before .before .before .last-of in (
-      s .pre .steady,
-      (
-        omega (arith, payee-under (getD (s .args .pays .now) (l .result) 0)),
-        s .pre .member,
-        omega (arith, s .pre .small (l .result) (l .ensures .under)),
-      ),
-    )
+    let l = c .before .before .before .before .last-of in
+    let payer = s .pre .member in
+    let payee = payee-under (getD (s .args .pays .now) (l .result) 0) in
+    (s .pre .steady, (omega arith, omega arith, omega (arith, s .pre .small (l .result) (l .ensures .under))))
 
 mul-tops : tie.Need-mul-tops
 mul-tops c = search needs

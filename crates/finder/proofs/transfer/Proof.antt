@@ -1,5 +1,5 @@
 -- `finder::transfer` meets its contract: after the giver has given, no position is farther from zero than before by more than the amount.
-use mathlib.Core.Path.{_≡_, _∙_}
+use mathlib.Core.Path.{_≡_}
 use Prim.Native.Nat.{_≤_, _<_, _^_}
 use native.Mathlib.Omega.{arith}
 use lib.IntN.{pos, _-ℤ_}
@@ -65,7 +65,7 @@ returns : tie.Need-returns
 returns c =
     let d = c .before .before .before .before in
     let g = fits (d .before .before) in
-    (simp plain at (c .before .add2 .ensures)) ∙ rw (gave d)
+    rw (gave d) at (simp plain at (c .before .add2 .ensures))
 
 pub transfer-spec : {M : Type 1} → statement M
 transfer-spec =
