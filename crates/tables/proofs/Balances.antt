@@ -30,7 +30,8 @@ near-of m (negsuc n) u d = record { above = omega arith; below = omega arith }
 
 -- ---- accounts in order are bounded
 
-near-holder : (b l : ℤ) → holderOk b l ≡ true → Near highest b
+-- a member's balance is, where it is in order,
+pub near-holder : (b l : ℤ) → holderOk b l ≡ true → Near highest b
 near-holder b l e =
     let e1 = and-both (leZ (pos 0) l) _ e in
     let e2 = and-both (leZ l (pos limit)) _ (e1 .1) in
@@ -58,17 +59,21 @@ accounts-bounded n a h e = record { long = h; near = λ i q. near-account (ltb i
 
 -- ---- and so are their sums
 
-module _ {a : List ℤ} (b : Bounded a) where
-  near-sum : (i : ℕ) → i ≤ 64 → Near (i * highest) (money i (balanceOf a))
+module _ (n : ℕ) (b : ℕ → ℤ) (near : (i : ℕ) → i < n → Near highest (b i)) where
+  near-sum : (i : ℕ) → i ≤ n → Near (i * highest) (money i b)
   near-sum zero h = record { above = omega arith; below = omega arith }
   near-sum (suc i) h =
       let s = near-sum i (omega arith) in
-      let t = b .near i h in
-      near-of (suc i * highest) (money (suc i) (balanceOf a)) (omega (arith, plus (money i (balanceOf a)) (balanceOf a i))) (omega (arith, plus (money i (balanceOf a)) (balanceOf a i)))
+      let t = near i h in
+      near-of (suc i * highest) (money (suc i) b) (omega (arith, plus (money i b) (b i))) (omega (arith, plus (money i b) (b i)))
 
-  -- the sum of the first balances fits an i64
-  pub sum-fits : (i : ℕ) → i ≤ 64 → SFits w64 (money i (balanceOf a))
-  sum-fits i h = let s = near-sum i h in omega ints
+  -- the sum of the first balances, of at most 64, fits an i64
+  pub near-fits : n ≤ 64 → (i : ℕ) → i ≤ n → SFits w64 (money i b)
+  near-fits l i h = let s = near-sum i h in omega ints
+
+-- as it does for the balances of a state
+pub sum-fits : {a : List ℤ} → Bounded a → (i : ℕ) → i ≤ 64 → SFits w64 (money i (balanceOf a))
+sum-fits {a} b = near-fits 64 (balanceOf a) (b .near) (omega arith)
 
 -- ---- one balance, by the sum of all
 
@@ -86,8 +91,6 @@ module _ (m : ℕ) (b : ℕ → ℤ) where
           → up (b k) + down (money (suc n) b) ≤ suc n * m + up (money (suc n) b) + down (b k)
       go (yes e) ih = rw e (omega (arith, sum-low n (λ i h. f i (omega arith)), plus (money n b) (b n)))
       go (no e) ih = omega (arith, ih (omega arith), f n (omega arith), plus (money n b) (b n))
-
--- ---- the balances of what holds document 01's list
 
 low-of : (m : ℕ) (z : ℤ) → down z ≤ m + up z → down z ≤ m
 low-of m (pos n) h = omega arith

@@ -24,7 +24,8 @@ use Rattle.tables.proofs.Balances.{holds-near}
 
 -- ---- a state holds the list
 
-holder-is : (b l : ℤ) → holderOk b l ≡ true → Holder b l
+-- a balance and a line in order are a member's
+pub holder-is : (b l : ℤ) → holderOk b l ≡ true → Holder b l
 holder-is b l e =
     let e1 = and-both (leZ (pos 0) l) _ e in
     let e2 = and-both (leZ l (pos limit)) _ (e1 .1) in
@@ -55,7 +56,6 @@ pub record Counters (c : List ℕ) : Type 0 where
   pub spare : every (zeroAt c 2) 62 ≡ true
   pub later : every (zeroAt c 192) 320 ≡ true
 
--- counters that pass are in order
 pub counters-are : (c : List ℕ) → countersOk c ≡ true → Counters c
 unfolding countersOk
 counters-are c e =

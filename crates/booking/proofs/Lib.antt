@@ -1,0 +1,10 @@
+pub mod Filling
+pub mod Passing
+pub mod Entering
+pub mod Closing
+pub mod Covering
+pub mod Staying
+pub mod Booked
+pub mod Outside
+pub mod Reading
+pub mod Kept

@@ -1,0 +1,63 @@
+-- Who is no member pays nothing and is paid nothing, so that booking keeps the sum of all 64 balances.
+use mathlib.Core.Path.{_≡_, refl, sym, ap, _∙_}
+use mathlib.Core.List.{List, [], _∷_}
+use Prim.Native.Nat.{ℕ, zero, suc, _≤_, _<_}
+use native.Mathlib.Decide.{ℕ-discrete}
+use native.Mathlib.Omega.{arith}
+use lib.IntN.{ℤ, pos, _+ℤ_}
+use lib.Seq.{take-nil}
+use Rattle.rule.specs.Kernel.{Counts}
+use Rattle.rule.specs.Payment.{payeeOf, amountOf, amountTo}
+use Rattle.rule.specs.Queue.{worth, Outgoing}
+use Rattle.rule.specs.House.{sent, received, position, money}
+use Rattle.rule.proofs.Ints.{plus-zero}
+use Rattle.rule.proofs.Sums.{sum-cong, sum-zero, eqb-other}
+use Rattle.rule.proofs.Queues.{outgoing-drop}
+use Rattle.rule.proofs.Money.{money-booked}
+use Rattle.tables.specs.Layout.{countOf, balanceOf, moneyOf, houseOf}
+use Rattle.tables.specs.Holds.{Holds}
+use Rattle.tables.proofs.Houses.{holds-proper, no-queue}
+
+-- payments to members bring nothing to others
+none-to : (n i j : ℕ) (q : List ℕ) (k : ℕ) → n ≤ i → Outgoing n j q → worth (amountTo i) q k ≡ 0
+unfolding worth
+none-to n i j [] k h o = rw take-nil
+none-to n i j (w ∷ ws) zero h o = refl
+none-to n i j (w ∷ ws) (suc k) h o =
+    let l : payeeOf w < n = o .to 0 (omega arith) in
+    rw (eqb-other {i = payeeOf w} {j = i} (λ e. omega arith), none-to n i j ws k h (outgoing-drop 1 (w ∷ ws) o))
+
+none-from : (k : ℕ) → worth amountOf [] k ≡ 0
+unfolding worth
+none-from k = rw take-nil
+
+-- a sum of balances goes no further than the last that is not 0
+money-rest : (m n : ℕ) (b : ℕ → ℤ) → n ≤ m → ((i : ℕ) → n ≤ i → i < m → b i ≡ pos 0) → money m b ≡ money n b
+money-rest zero n b h f = let e : n ≡ 0 = omega arith in rw e
+money-rest (suc m) n b h f = elim (ℕ-discrete n (suc m)) [
+  | yes e ↦ rw e
+  | no e ↦ ap (λ x. money m b +ℤ x) (f m (omega arith) (omega arith)) ∙ plus-zero (money m b) ∙ money-rest m n b (omega arith) (λ i k l. f i k (omega arith))
+]
+
+module _ {a : List ℤ} {c p : List ℕ} (h : Holds a c p) (z : Counts) where
+  sends-none : (i : ℕ) → countOf c ≤ i → sent (houseOf a c p) z i ≡ 0
+  unfolding sent
+  sends-none i l = rw (no-queue h i l) (none-from (z i))
+
+  receives-none : (i : ℕ) → countOf c ≤ i → received (countOf c) (houseOf a c p) z i ≡ 0
+  unfolding received
+  receives-none i l =
+      sum-cong (countOf c) (λ j. worth (amountTo i) (houseOf a c p .queue j) (z j)) (λ j. 0)
+      (λ j k. none-to (countOf c) i j (houseOf a c p .queue j) (z j) l (holds-proper h .outgoing j k))
+      ∙ sum-zero (countOf c)
+
+  -- whatever is booked, who is no member stands at 0,
+  pub no-position : (i : ℕ) → countOf c ≤ i → i < 64 → position (countOf c) (houseOf a c p) z i ≡ pos 0
+  no-position i l q = rw (h .no-balance i l q, sends-none i l, receives-none i l)
+
+  -- and the sum of all balances is as it was
+  pub money-position : money 64 (position (countOf c) (houseOf a c p) z) ≡ moneyOf a
+  money-position =
+      money-rest 64 (countOf c) (position (countOf c) (houseOf a c p) z) (h .few) no-position
+      ∙ money-booked (countOf c) (houseOf a c p) z (holds-proper h)
+      ∙ sym (money-rest 64 (countOf c) (balanceOf a) (h .few) (h .no-balance))

@@ -1,0 +1,85 @@
+-- `booking::count_off` meets its contract: the block of what was settled, filled and put back, and the waiting lowered by the sum of the counts.
+use borrow.Author.Needs.{needs}
+use mathlib.Core.Path.{_≡_, ap, _∙_}
+use mathlib.Core.List.{List, _++_}
+use Prim.Native.Nat.{ℕ, _+_, _<_}
+use native.Mathlib.Omega.{arith}
+use lib.ListN.{getD, take, drop, length-drop}
+use lib.Seq.{length-take-le, getD-take, getD-drop}
+use borrow.Rule.Slice.PartMut.{putMid}
+use Rattle.rule.specs.Lists.{fillAt}
+use Rattle.rule.specs.Kernel.{sum}
+use Rattle.rule.proofs.Lists.{before-fill}
+use Rattle.tables.specs.Layout.{settledOf}
+use Rattle.booking.specs.Booking.{listed}
+use Rattle.booking.proofs.Filling.{fill-part}
+use Rattle.booking.proofs.count_off.Statement.{statement}
+use Rattle.booking.proofs.count_off.Tie as tie
+
+sub-add-counts : tie.Need-sub-add-counts
+sub-add-counts c = search needs
+
+part-add-counts-start : tie.Need-part-add-counts-start
+part-add-counts-start c = search needs
+
+part-add-counts-end : tie.Need-part-add-counts-end
+part-add-counts-end c = search needs
+
+block : (c : List ℕ) (i : ℕ) → i < 64 → getD (take 64 (drop 128 c)) i 0 ≡ settledOf c i
+block c i h = getD-take 64 (drop 128 c) i 0 h ∙ getD-drop 128 c i 0
+
+add-counts-requires : tie.Need-add-counts-requires
+add-counts-requires c κs =
+    let s = c .before .before .before in
+    ((length-take-le 64 (drop 128 (s .args .counters .now)) (simp length-drop (omega (arith, s .pre .broad))), s .pre .members), λ i h. rw (block (s .args .counters .now) i h) (s .pre .settles i h))
+
+tally-requires : tie.Need-tally-requires
+tally-requires c κs = search needs
+
+slice-read-counters : tie.Need-slice-read-counters
+slice-read-counters c = search needs
+
+-- the block put back
+settled : (c : tie.After-add-counts) → putMid 128 64 (c .before .before .before .before .args .counters .now) (c .add-counts .last .0)
+    ≡ fillAt 128 64 (λ i. settledOf (c .before .before .before .before .args .counters .now) i + listed (c .before .before .before .before .args .counts .now) i) (c .before .before .before .before .args .counters .now)
+unfolding fillAt
+settled c =
+    let l = c .before .before .before .before .args .counters .now in
+    let k = c .before .before .before .before .args .counts .now in
+    ap (λ r. take 128 l ++ r) (ap (λ r. r ++ drop 64 (drop 128 l)) (c .add-counts .ensures)
+    ∙ fill-part 0 64 _ (λ i. settledOf l i + listed k i) (drop 128 l) (simp length-drop (omega (arith, c .before .before .before .before .pre .broad))) (λ i h. ap (λ n. n + listed k i) (block l i h)))
+
+counted : (c : tie.After-tally) → c .tally .result ≡ sum 64 (listed (c .before .before .before .before .before .before .before .args .counts .now))
+counted c = let s = c .before .before .before .before .before .before .before in c .tally .ensures ∙ ap (λ n. sum n (listed (s .args .counts .now))) (s .pre .members)
+
+sub-counters : tie.Need-sub-counters
+sub-counters c =
+    let s = c .before .before .before .before .before .before .before .before in
+    rw (settled (c .before .before .before .before), before-fill 128 64 (λ i. settledOf (s .args .counters .now) i + listed (s .args .counts .now) i) (s .args .counters .now) (omega (arith, s .pre .broad)) 1 0 (omega arith), counted (c .before))
+    (s .pre .waits)
+
+slice-write-counters : tie.Need-slice-write-counters
+slice-write-counters c = search needs
+
+same-length : tie.Need-same-length
+same-length c = search needs
+
+returns : tie.Need-returns
+returns c =
+    let s = c .before .before .before .before .before .before .before .before in
+    rw (settled (c .before .before .before .before), before-fill 128 64 (λ i. settledOf (s .args .counters .now) i + listed (s .args .counts .now) i) (s .args .counters .now) (omega (arith, s .pre .broad)) 1 0 (omega arith), counted (c .before))
+
+pub count-off-spec : {M : Type 1} → statement M
+count-off-spec =
+    tie.close
+    (tie.spec
+    sub-add-counts
+    part-add-counts-start
+    part-add-counts-end
+    add-counts-requires
+    tally-requires
+    slice-read-counters
+    sub-counters
+    slice-write-counters
+    same-length
+    returns)

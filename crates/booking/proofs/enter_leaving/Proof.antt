@@ -1,0 +1,102 @@
+-- `booking::enter_leaving` meets its contract. The loop's invariant: what is entered, with what is still to be entered, is all that leaves.
+use mathlib.Core.Path.{sym, _∙_}
+use mathlib.Core.Logic.{⊎-elim}
+use Prim.Native.Nat.{_<_, _-_}
+use native.Mathlib.Omega.{arith}
+use lib.ListN.{getD}
+use borrow.Author.Needs.{needs}
+use Rattle.finder.proofs.Tops.{payer-under}
+use Rattle.booking.proofs.Entering.{Underway, underway-start, underway-steady, underway-stay, underway-leave, underway-end}
+use Rattle.booking.proofs.enter_leaving.Statement.{statement}
+use Rattle.booking.proofs.enter_leaving.Tie as tie
+
+abbrev Inv-loop : tie.InvT-loop
+Inv-loop pays used positions₀ left₀ i₀ positions left i = Underway used pays positions₀ left₀ positions left i
+
+abbrev μ-loop : tie.MeasureT-loop
+μ-loop pays used positions₀ left₀ i₀ positions left i = used - i
+
+loop-holds : tie.Need-loop-holds Inv-loop μ-loop
+loop-holds c = let s = c .before .before in underway-start (s .args .left .now) (s .pre .0) (s .pre .1)
+
+mul-w : tie.Need-mul-w Inv-loop μ-loop
+mul-w c = omega (arith, c .before .before .before .before .pre .0 .few)
+
+shared-slice-read-w : tie.Need-shared-slice-read-w Inv-loop μ-loop
+shared-slice-read-w c = omega (arith, c .before .before .before .before .before .pre .0 .places)
+
+payer-of-requires : tie.Need-payer-of-requires Inv-loop μ-loop
+payer-of-requires c κs = search needs
+
+seat : (c : tie.After-payer-of Inv-loop μ-loop) → c .payer-of .result < 64
+seat c = omega (arith, payer-under (getD (c .before .before .before .before .before .before .args .pays .now) (c .before .before .before .loop .i) 0))
+
+mul-z : tie.Need-mul-z Inv-loop μ-loop
+mul-z c = omega (arith, seat c)
+
+slice-read-z : tie.Need-slice-read-z Inv-loop μ-loop
+slice-read-z c = omega (arith, seat (c .before), c .before .before .before .before .loop .inv .members)
+
+sub-left : tie.Need-sub-left Inv-loop μ-loop
+sub-left c = let t = c .if1 .taken in omega arith
+
+mul-left : tie.Need-mul-left Inv-loop μ-loop
+mul-left c = omega (arith, seat (c .before .before))
+
+slice-write-left : tie.Need-slice-write-left Inv-loop μ-loop
+slice-write-left c = omega (arith, seat (c .before .before), c .before .before .before .before .before .loop .inv .members)
+
+enter-requires : tie.Need-enter-requires Inv-loop μ-loop
+enter-requires c κs =
+    let s = c .before .before .before .before .before .before .before .before .before in
+    let l = c .before .before .before .before .before .before .loop in
+    (underway-steady (s .pre .0) (omega arith) (l .inv), s .pre .0 .small (l .i) (omega arith))
+
+add-i : tie.Need-add-i Inv-loop μ-loop
+add-i c = search needs
+
+loop-less : tie.Need-loop-less Inv-loop μ-loop
+loop-less c = search needs
+
+loop-again : tie.Need-loop-again Inv-loop μ-loop
+loop-again c =
+    let s = c .before .before .before .before .before .before .before .before in
+    let l = c .before .before .before .before .before .loop in
+    let e = c .before .before .payer-of .ensures in
+    let h : l .i < s .args .used = omega arith in
+    ⊎-elim
+    (λ w. rw (w .4 ∙ w .2 .ensures, w .5, e) (underway-leave (s .pre .0) h (l .inv) (rw e at (w .0 .taken))))
+    (λ w. rw (w .1, w .2) (underway-stay (s .pre .0) h (l .inv) (rw e at (w .0 .left))))
+    (c .if1 .came)
+
+same-length : tie.Need-same-length Inv-loop μ-loop
+same-length c = c .before .loop .inv .each ∙ sym (c .before .before .before .before .pre .0 .each)
+
+same-length-2 : tie.Need-same-length-2 Inv-loop μ-loop
+same-length-2 c = c .before .loop .inv .members ∙ sym (c .before .before .before .before .pre .1)
+
+returns : tie.Need-returns Inv-loop μ-loop
+returns c = underway-end (omega arith) (c .before .loop .inv)
+
+pub enter-leaving-spec : {M : Type 1} → statement M
+enter-leaving-spec =
+    tie.close
+    (tie.spec
+    Inv-loop
+    μ-loop
+    loop-holds
+    mul-w
+    shared-slice-read-w
+    payer-of-requires
+    mul-z
+    slice-read-z
+    sub-left
+    mul-left
+    slice-write-left
+    enter-requires
+    add-i
+    loop-less
+    loop-again
+    same-length
+    same-length-2
+    returns)

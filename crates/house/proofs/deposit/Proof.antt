@@ -1,0 +1,30 @@
+-- `house::deposit` meets its contract: no loop; the tables hold a state, or the answer is 1.
+use borrow.Author.Needs.{needs}
+use mathlib.Core.Path.{refl}
+use Rattle.tables.proofs.States.{state-holds}
+use Rattle.tables.proofs.Tests.{flag-no, flag-yes}
+use Rattle.house.proofs.deposit.Statement.{statement}
+use Rattle.house.proofs.deposit.Tie as tie
+
+is-state-requires : tie.Need-is-state-requires
+is-state-requires c κs = search needs
+
+same-length : tie.Need-same-length
+same-length c = search needs
+
+returns : tie.Need-returns
+returns c = (rw (flag-no (c .before .is-state .ensures) (c .if1 .taken)), refl)
+
+deposit-requires : tie.Need-deposit-requires
+deposit-requires c κs = record { pays = c .before .before .before .before .before .before .args .pays .now; holds = state-holds _ _ _ (flag-yes (c .before .before .is-state .ensures) (c .before .if1 .left)) }
+
+same-length-2 : tie.Need-same-length-2
+same-length-2 c = search needs
+
+returns-2 : tie.Need-returns-2
+returns-2 c = (rw (flag-yes (c .before .before .before .before .is-state .ensures) (c .before .before .before .if1 .left)) (c .before .deposit .ensures .0), c .before .deposit .ensures .1)
+
+pub deposit-spec : {M : Type 1} → statement M
+deposit-spec =
+    tie.close
+    (tie.spec is-state-requires same-length returns deposit-requires same-length-2 returns-2)

@@ -1,0 +1,90 @@
+-- `house::open` meets its contract: no loop; a judgement that found nothing gives what filling the tables and the sum ask.
+use borrow.Author.Needs.{needs}
+use mathlib.Core.Path.{_≡_, refl, sym, ap, _∙_}
+use native.Mathlib.Omega.{arith}
+use Rattle.rule.proofs.Ints.{plain}
+use Rattle.rule.specs.House.{money}
+use Rattle.tables.proofs.Balances.{near-holder}
+use Rattle.house.specs.Open.{entry, judgeOpen, answerOpen}
+use Rattle.house.specs.declared.Judged.the-variants.{Fine}
+use Rattle.house.specs.declared.Opened.the-variants.{Done}
+use Rattle.house.proofs.Judging.{Opens, open-fine}
+use Rattle.house.proofs.open.Statement.{statement}
+use Rattle.house.proofs.open.Tie as tie
+
+fine : (c : tie.After-enum-told) → let s = c .before .before .before .before .before .before .before .before in judgeOpen (s .args .accounts .now) (s .args .counters .now) (s .args .pays .now) (s .args .count) (s .args .balances .now) (s .args .lines .now) ≡ Fine
+fine c = sym (c .before .before .judge .ensures) ∙ c .enum-told .given .1
+
+accepted : (c : tie.After-enum-told) → let s = c .before .before .before .before .before .before .before .before in Opens (s .args .accounts .now) (s .args .counters .now) (s .args .pays .now) (s .args .count) (s .args .balances .now) (s .args .lines .now)
+accepted c = open-fine _ _ _ _ _ _ (fine c)
+
+judge-requires : tie.Need-judge-requires
+judge-requires c κs = search needs
+
+enum-known-j : tie.Need-enum-known-j
+enum-known-j c = search needs
+
+enum-told : tie.Need-enum-told
+enum-told c = search needs
+
+fill-accounts-requires : tie.Need-fill-accounts-requires
+fill-accounts-requires c κs = let o = accepted (c .before) in (o .long, (o .opening .few, o .opening .balances, o .opening .lines))
+
+fill-counters-requires : tie.Need-fill-counters-requires
+fill-counters-requires c κs = let o = accepted (c .before .before .before .before) in (o .broad, o .opening .few)
+
+fill-pays-requires : tie.Need-fill-pays-requires
+fill-pays-requires c κs = accepted (c .before .before .before .before .before .before .before .before) .deep
+
+total-requires : tie.Need-total-requires
+total-requires c κs =
+    let o = accepted (c .before .before .before .before .before .before .before .before .before .before .before) .opening in
+    (omega (arith, o .few, o .balances), λ i h. near-holder _ (entry (c .before .before .before .before .before .before .before .before .before .before .before .before .before .before .before .before .before .before .before .args .lines .now) i) (o .holders i (omega (arith, o .balances))))
+
+same-length : tie.Need-same-length
+same-length c = search needs
+
+same-length-2 : tie.Need-same-length-2
+same-length-2 c = search needs
+
+same-length-3 : tie.Need-same-length-3
+same-length-3 c = search needs
+
+returns : tie.Need-returns
+returns c = (sym (ap (answerOpen (c .before .before .before .before .before .before .before .before .before .args .count) (c .before .before .before .before .before .before .before .before .before .args .balances .now)) (sym (c .before .before .before .judge .ensures) ∙ c .before .j .given .1)), (refl, (refl, refl)))
+
+same-length-4 : tie.Need-same-length-4
+same-length-4 c = search needs
+
+same-length-5 : tie.Need-same-length-5
+same-length-5 c = search needs
+
+same-length-6 : tie.Need-same-length-6
+same-length-6 c = search needs
+
+returns-2 : tie.Need-returns-2
+returns-2 c =
+    let s = c .before .before .before .before .before .before .before .before .before .before .before .before .before .before .before .before .before .before .before .before in
+    let r = c .total .ok in
+    let e : c .total .result ≡ money (s .args .count) (entry (s .args .balances .now)) = rw (accepted (c .before .before .before .before .before .before .before .before .before .before .before .before) .opening .balances) at (c .total .ensures) in
+    (simp plain (ap Done e ∙ sym (ap (answerOpen (s .args .count) (s .args .balances .now)) (fine (c .before .before .before .before .before .before .before .before .before .before .before .before)))), (c .before .before .before .before .before .before .before .before .before .before .fill-accounts .ensures, (c .before .before .before .before .before .before .before .fill-counters .ensures, c .before .before .before .fill-pays .ensures)))
+
+pub open-spec : {M : Type 1} → statement M
+open-spec =
+    tie.close
+    (tie.spec
+    judge-requires
+    enum-known-j
+    enum-told
+    fill-accounts-requires
+    fill-counters-requires
+    fill-pays-requires
+    total-requires
+    same-length
+    same-length-2
+    same-length-3
+    returns
+    same-length-4
+    same-length-5
+    same-length-6
+    returns-2)

@@ -1,0 +1,44 @@
+-- `house::submit` meets its contract: no loop; the tables hold a state, or the answer is 1.
+use borrow.Author.Needs.{needs}
+use mathlib.Core.Path.{refl}
+use Rattle.tables.proofs.States.{state-holds}
+use Rattle.tables.proofs.Tests.{flag-no, flag-yes}
+use Rattle.house.proofs.submit.Statement.{statement}
+use Rattle.house.proofs.submit.Tie as tie
+
+is-state-requires : tie.Need-is-state-requires
+is-state-requires c κs = search needs
+
+same-length : tie.Need-same-length
+same-length c = search needs
+
+same-length-2 : tie.Need-same-length-2
+same-length-2 c = search needs
+
+returns : tie.Need-returns
+returns c = (rw (flag-no (c .before .is-state .ensures) (c .if1 .taken)), (refl, refl))
+
+submit-requires : tie.Need-submit-requires
+submit-requires c κs = record { accounts = c .before .before .before .before .before .before .before .before .args .accounts .now; holds = state-holds _ _ _ (flag-yes (c .before .before .before .is-state .ensures) (c .before .before .if1 .left)) }
+
+same-length-3 : tie.Need-same-length-3
+same-length-3 c = search needs
+
+same-length-4 : tie.Need-same-length-4
+same-length-4 c = search needs
+
+returns-2 : tie.Need-returns-2
+returns-2 c = let e = c .before .before .before .before .submit .ensures in (rw (flag-yes (c .before .before .before .before .before .before .before .before .is-state .ensures) (c .before .before .before .before .before .before .before .if1 .left)) (e .0), (e .1 .0, e .1 .1))
+
+pub submit-spec : {M : Type 1} → statement M
+submit-spec =
+    tie.close
+    (tie.spec
+    is-state-requires
+    same-length
+    same-length-2
+    returns
+    submit-requires
+    same-length-3
+    same-length-4
+    returns-2)

@@ -1,0 +1,4 @@
+pub mod Codes
+pub mod Open
+pub mod Deposit
+pub mod Submit

@@ -1,0 +1,150 @@
+// The house: the calls on lent tables, their answers and codes. Each call looks at the tables, judges the request, and acts.
+ghost use mathlib.Core.Path.{_≡_};
+ghost use mathlib.Core.Bool.{cond};
+ghost use Rattle.house.specs.Codes.{codeOf};
+ghost use Rattle.house.specs.Open.{opened, isOpened, accountsOpened, countersOpened, paysOpened};
+ghost use Rattle.house.specs.Deposit.{deposited, isDeposited, accountsDeposited};
+ghost use Rattle.house.specs.Submit.{submitted, isSubmitted, countersSubmitted, paysSubmitted};
+
+pub mod held;
+pub mod judge;
+pub mod opening;
+
+// Why a call is refused.
+pub enum Refusal {
+    // The lent tables are too short, or hold no state.
+    State,
+    // A member number outside 1 to the count.
+    Member,
+    // Payer and payee are the same.
+    Same,
+    // An amount outside 1 to 10^12.
+    Amount,
+    // The number is not the payer's last + 1.
+    Number,
+    // 2,048 payments wait.
+    Full,
+    // The deposit would take the sum of balances above 10^15.
+    Money,
+    // A release, and nothing waits there.
+    Nothing,
+    // A release or a group that is not covered.
+    Cover,
+    // The list of counts is not as long as the member count, or has a count above what waits.
+    Counts,
+    // A bad opening.
+    Opening,
+    // A bad line in the day file.
+    Line,
+    // Less than 80 bytes are left in the lent output.
+    Room,
+}
+
+// What a request is judged to be.
+pub enum Judged {
+    Fine,
+    Bad(Refusal),
+}
+
+// The answer of an opening: the sum of balances.
+pub enum Opened {
+    Done(i64),
+    Refused(Refusal),
+}
+
+// The answer of a deposit: the new balance.
+pub enum Deposited {
+    Done(i64),
+    Refused(Refusal),
+}
+
+// The answer of a submission.
+pub enum Submitted {
+    Done,
+    Refused(Refusal),
+}
+
+// The paper's number of a refusal.
+pub fn code(r: Refusal) -> u32
+    ensures { λ n. ⌜ n ≡ codeOf r ⌝ }
+{
+    match r {
+        Refusal::State => 1,
+        Refusal::Member => 2,
+        Refusal::Same => 3,
+        Refusal::Amount => 4,
+        Refusal::Number => 5,
+        Refusal::Full => 6,
+        Refusal::Money => 7,
+        Refusal::Nothing => 8,
+        Refusal::Cover => 9,
+        Refusal::Counts => 10,
+        Refusal::Opening => 11,
+        Refusal::Line => 12,
+        Refusal::Room => 13,
+    }
+}
+
+// Opens a house of `count` members on lent tables, whatever they held.
+pub fn open(
+    accounts: &mut [i64],
+    counters: &mut [u32],
+    pays: &mut [u64],
+    count: u64,
+    balances: &[i64],
+    lines: &[i64],
+) -> Opened
+    ensures { λ r. ⌜ r ≡ opened (now (accounts .entry)) (now (counters .entry)) (now (pays .entry)) count (now (balances .entry)) (now (lines .entry)) ⌝ }
+    ensures { λ r. ⌜ now (accounts .exit) ≡ cond (isOpened r) (accountsOpened count (now (balances .entry)) (now (lines .entry)) (now (accounts .entry))) (now (accounts .entry)) ⌝ }
+    ensures { λ r. ⌜ now (counters .exit) ≡ cond (isOpened r) (countersOpened count (now (counters .entry))) (now (counters .entry)) ⌝ }
+    ensures { λ r. ⌜ now (pays .exit) ≡ cond (isOpened r) (paysOpened (now (pays .entry))) (now (pays .entry)) ⌝ }
+{
+    let j = opening::judge(accounts, counters, pays, count, balances, lines);
+    match j {
+        Judged::Bad(r) => Opened::Refused(r),
+        Judged::Fine => {
+            let n = count as usize;
+            opening::fill_accounts(accounts, n, balances, lines);
+            opening::fill_counters(counters, n);
+            opening::fill_pays(pays);
+            Opened::Done(opening::total(balances))
+        }
+    }
+}
+
+// A deposit to a member, on any lent tables.
+pub fn deposit(
+    accounts: &mut [i64],
+    counters: &[u32],
+    pays: &[u64],
+    member: u64,
+    amount: u64,
+) -> Deposited
+    ensures { λ r. ⌜ r ≡ deposited (now (accounts .entry)) (now (counters .entry)) (now (pays .entry)) member amount ⌝ }
+    ensures { λ r. ⌜ now (accounts .exit) ≡ cond (isDeposited r) (accountsDeposited (now (accounts .entry)) member amount) (now (accounts .entry)) ⌝ }
+{
+    if !tables::look::is_state(accounts, counters, pays) {
+        return Deposited::Refused(Refusal::State);
+    }
+    held::deposit(accounts, counters, member, amount)
+}
+
+// A payment at the tail of its payer's queue, on any lent tables. It settles nothing.
+pub fn submit(
+    accounts: &[i64],
+    counters: &mut [u32],
+    pays: &mut [u64],
+    payer: u64,
+    number: u64,
+    payee: u64,
+    amount: u64,
+) -> Submitted
+    ensures { λ r. ⌜ r ≡ submitted (now (accounts .entry)) (now (counters .entry)) (now (pays .entry)) payer number payee amount ⌝ }
+    ensures { λ r. ⌜ now (counters .exit) ≡ cond (isSubmitted r) (countersSubmitted (now (counters .entry)) payer number) (now (counters .entry)) ⌝ }
+    ensures { λ r. ⌜ now (pays .exit) ≡ cond (isSubmitted r) (paysSubmitted (now (counters .entry)) (now (pays .entry)) payer payee amount) (now (pays .entry)) ⌝ }
+{
+    if !tables::look::is_state(accounts, counters, pays) {
+        return Submitted::Refused(Refusal::State);
+    }
+    held::submit(counters, pays, payer, number, payee, amount)
+}
