@@ -1,0 +1,2 @@
+pub mod Eating
+pub mod Chunks

@@ -1,0 +1,68 @@
+// Bytes in chunks of any size, cut into lines.
+ghost use mathlib.Core.Path.{_≡_};
+ghost use Prim.Native.Nat.{_+_, _≤_, _<_};
+ghost use lib.ListN.{length, drop};
+ghost use Rattle.cut.specs.Lines.{mostBytes};
+ghost use Rattle.cut.specs.Chunks.{pushed, eatOf, stateOf, Ready};
+
+// The most bytes of a line, before the byte 10.
+const MOST_BYTES: usize = 400;
+
+// What is held of the line that is not ended: how many bytes stand in the lent buffer, and whether there were more than 400.
+pub struct Cut {
+    pub held: usize,
+    pub is_long: bool,
+}
+
+// What eating found: whether a line is ended, or only the chunk; the next place; what is held of the line.
+pub struct Ate {
+    pub is_done: bool,
+    pub at: usize,
+    pub cut: Cut,
+}
+
+// Eats the chunk from from on, up to and with the end of a line, or all of it.
+pub fn eat(chunk: &[u8], from: usize, buf: &mut [u8], c: Cut) -> Ate
+    requires { ⌜ (length (now buf) ≡ mostBytes) × (c .held ≤ mostBytes) × (from ≤ length (now chunk)) ⌝ }
+    ensures { λ r. ⌜ Ready r (eatOf (drop from (now (chunk .entry))) (stateOf (now (buf .entry)) c)) (now (buf .exit)) from ⌝ }
+    ensures { λ r. ⌜ (r .at ≤ length (now (chunk .entry))) × (r .cut .held ≤ mostBytes) ⌝ }
+{
+    let mut t = c;
+    let mut i = from;
+    while i < chunk.len() {
+        let b = chunk[i];
+        if b == 10 {
+            return Ate {
+                is_done: true,
+                at: i + 1,
+                cut: t,
+            };
+        }
+        t = push(buf, t, b);
+        i += 1;
+    }
+    Ate {
+        is_done: false,
+        at: i,
+        cut: t,
+    }
+}
+
+// One byte more of the line that is not ended; past 400 it is only noted that there was one.
+fn push(buf: &mut [u8], c: Cut, b: u8) -> Cut
+    requires { ⌜ (length (now buf) ≡ mostBytes) × (c .held ≤ mostBytes) ⌝ }
+    ensures { λ r. ⌜ (stateOf (now (buf .exit)) r ≡ pushed b (stateOf (now (buf .entry)) c)) × (r .held ≤ mostBytes) ⌝ }
+{
+    let held = c.held;
+    if held < MOST_BYTES {
+        buf[held] = b;
+        return Cut {
+            held: held + 1,
+            is_long: c.is_long,
+        };
+    }
+    Cut {
+        held,
+        is_long: true,
+    }
+}

@@ -1,0 +1,4 @@
+pub mod Reading
+pub mod Writing
+pub mod Signs
+pub mod RoundTrip

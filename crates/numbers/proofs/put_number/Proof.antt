@@ -1,0 +1,81 @@
+-- `numbers::put_number` meets its contract. The invariant: the digits that are left, k of y, written into what is there now, give all
+-- digits of x written into what was there at first.
+use native.Mathlib.Omega.{arith}
+use borrow.Author.Needs.{needs}
+use mathlib.Core.Path.{_≡_, refl, sym, _∙_}
+use Prim.Native.Nat.{_≤_, _+_}
+use lib.ListN.{length, length-set}
+use lib.Seq.{sets}
+use Rattle.numbers.specs.Numbers.{lastDigits, widthOf, digitsOf}
+use Rattle.numbers.proofs.Writing.{put-step, put-end, length-digits}
+use Rattle.numbers.proofs.put_number.Statement.{statement}
+use Rattle.numbers.proofs.put_number.Tie as tie
+
+abbrev Inv-loop : tie.InvT-loop
+Inv-loop out₀ at x w y₀ k₀ out y k = (k ≤ w) × (w ≡ widthOf x) × (at + w ≤ length out₀) × (length out ≡ length out₀) × (sets out at (lastDigits k y) ≡ sets out₀ at (digitsOf x))
+
+abbrev μ-loop : tie.MeasureT-loop
+μ-loop out₀ at x w y₀ k₀ out y k = k
+
+width-requires : tie.Need-width-requires Inv-loop μ-loop
+width-requires c κs = search needs
+
+loop-holds : tie.Need-loop-holds Inv-loop μ-loop
+loop-holds c =
+    let e = c .width .ensures in
+    let l = length-digits (widthOf (c .before .before .args .x)) (c .before .before .args .x) in
+    (omega arith, e, omega (arith, c .before .before .pre), refl, rw e)
+
+sub-k : tie.Need-sub-k Inv-loop μ-loop
+sub-k c = search needs
+
+cast-out : tie.Need-cast-out Inv-loop μ-loop
+cast-out c = search needs
+
+add-out : tie.Need-add-out Inv-loop μ-loop
+add-out c = search needs
+
+add-out-2 : tie.Need-add-out-2 Inv-loop μ-loop
+add-out-2 c = search needs
+
+slice-write-out : tie.Need-slice-write-out Inv-loop μ-loop
+slice-write-out c = search needs
+
+loop-less : tie.Need-loop-less Inv-loop μ-loop
+loop-less c = search needs
+
+loop-again : tie.Need-loop-again Inv-loop μ-loop
+loop-again c =
+    let l = c .before .loop in
+    (omega arith, l .inv .1, l .inv .2, simp length-set (l .inv .3), put-step (l .out) (c .before .before .before .before .args .at) (l .k) (l .y) (omega arith) ∙ l .inv .4)
+
+add-result : tie.Need-add-result Inv-loop μ-loop
+add-result c = search needs
+
+same-length : tie.Need-same-length Inv-loop μ-loop
+same-length c = search needs
+
+returns : tie.Need-returns Inv-loop μ-loop
+returns c =
+    let l = c .before .loop in
+    let a = c .before .before .before .before .args in
+    (omega (arith, length-digits (widthOf (a .x)) (a .x)), sym (put-end (l .out) (a .at) (l .k) (l .y) (omega arith)) ∙ l .inv .4)
+
+pub put-number-spec : {M : Type 1} → statement M
+put-number-spec =
+    tie.close
+    (tie.spec
+    Inv-loop
+    μ-loop
+    width-requires
+    loop-holds
+    sub-k
+    cast-out
+    add-out
+    add-out-2
+    slice-write-out
+    loop-less
+    loop-again
+    add-result
+    same-length
+    returns)
