@@ -27,10 +27,6 @@ use Rattle.booking.proofs.Passing.{drop-turn, drop-end, leaving-none, l
 
 -- ---- where the entered payments take each position
 
-pub entered-length : (xs : List ℤ) (ws : List ℕ) → length (entered xs ws) ≡ length xs
-entered-length xs [] = refl
-entered-length xs (w ∷ ws) = entered-length (moved xs (payerOf w) (payeeOf w) (amountOf w)) ws ∙ simp length-set
-
 one-more : (x : ℤ) (b : Bool) (w : ℕ) (q : List ℕ) (r t : ℕ)
     → x -ℤ pos (cond b (amountOf w) 0) +ℤ pos r -ℤ pos (total amountOf q) +ℤ pos t ≡ x -ℤ pos (total amountOf (cond b (w ∷ q) q)) +ℤ pos (r + t)
 one-more x true w q r t =
@@ -69,6 +65,11 @@ entered-at xs (w ∷ ws) i h =
     ∙ ap (λ x. x -ℤ pos (total amountOf (queueOf i ws)) +ℤ pos (total (amountTo i) ws))
     (moved-at xs (payerOf w) (payeeOf w) (amountOf w) i (rw h (payer-under w)) (rw h (payee-under w)))
     ∙ one-more (getD xs i (pos 0)) (eqb (payerOf w) i) w (queueOf i ws) (amountTo i w) (total (amountTo i) ws)
+
+-- and there are as many positions as before
+pub entered-length : (xs : List ℤ) (ws : List ℕ) → length (entered xs ws) ≡ length xs
+entered-length xs [] = refl
+entered-length xs (w ∷ ws) = entered-length (moved xs (payerOf w) (payeeOf w) (amountOf w)) ws ∙ simp length-set
 
 module _ {a : List ℤ} {c p counts : List ℕ} (g : Counted a c p counts) (bs : List ℤ) (members : length bs ≡ 64)
     (same : (i : ℕ) → i < 64 → getD bs i (pos 0) ≡ balanceOf a i) where

@@ -2,3 +2,5 @@ pub mod Codes
 pub mod Open
 pub mod Deposit
 pub mod Submit
+pub mod Release
+pub mod Group

@@ -1,4 +1,6 @@
 // Acting on tables that hold a state. Each call examines only what it touches.
+pub mod settle;
+
 use crate::Deposited;
 use crate::Judged;
 use crate::Refusal;

@@ -1,10 +1,13 @@
 // The house: the calls on lent tables, their answers and codes. Each call looks at the tables, judges the request, and acts.
 ghost use mathlib.Core.Path.{_≡_};
 ghost use mathlib.Core.Bool.{cond};
+ghost use Rattle.booking.specs.Booking.{listed, accountsBooked, countersBooked, paysBooked};
 ghost use Rattle.house.specs.Codes.{codeOf};
 ghost use Rattle.house.specs.Open.{opened, isOpened, accountsOpened, countersOpened, paysOpened};
 ghost use Rattle.house.specs.Deposit.{deposited, isDeposited, accountsDeposited};
 ghost use Rattle.house.specs.Submit.{submitted, isSubmitted, countersSubmitted, paysSubmitted};
+ghost use Rattle.house.specs.Release.{released, isReleased, onlyHead};
+ghost use Rattle.house.specs.Group.{grouped, isGrouped};
 
 pub mod held;
 pub mod judge;
@@ -61,6 +64,18 @@ pub enum Deposited {
 // The answer of a submission.
 pub enum Submitted {
     Done,
+    Refused(Refusal),
+}
+
+// The answer of a release: payer, number and amount.
+pub enum Released {
+    Done(u64, u64, u64),
+    Refused(Refusal),
+}
+
+// The answer of a group: how many payments, and their sum.
+pub enum Grouped {
+    Done(u64, u64),
     Refused(Refusal),
 }
 
@@ -147,4 +162,40 @@ pub fn submit(
         return Submitted::Refused(Refusal::State);
     }
     held::submit(counters, pays, payer, number, payee, amount)
+}
+
+// Settles a member's head payment if balance + line reach its amount, on any lent tables.
+pub fn release(
+    accounts: &mut [i64],
+    counters: &mut [u32],
+    pays: &mut [u64],
+    member: u64,
+) -> Released
+    ensures { λ r. ⌜ r ≡ released (now (accounts .entry)) (now (counters .entry)) (now (pays .entry)) member ⌝ }
+    ensures { λ r. ⌜ now (accounts .exit) ≡ cond (isReleased r) (accountsBooked (now (accounts .entry)) (now (counters .entry)) (now (pays .entry)) (onlyHead member)) (now (accounts .entry)) ⌝ }
+    ensures { λ r. ⌜ now (counters .exit) ≡ cond (isReleased r) (countersBooked (now (counters .entry)) (onlyHead member)) (now (counters .entry)) ⌝ }
+    ensures { λ r. ⌜ now (pays .exit) ≡ cond (isReleased r) (paysBooked (now (counters .entry)) (now (pays .entry)) (onlyHead member)) (now (pays .entry)) ⌝ }
+{
+    if !tables::look::is_state(accounts, counters, pays) {
+        return Released::Refused(Refusal::State);
+    }
+    held::settle::release(accounts, counters, pays, member)
+}
+
+// Settles that many payments from each head at once, if the set is allowed, on any lent tables.
+pub fn group(
+    accounts: &mut [i64],
+    counters: &mut [u32],
+    pays: &mut [u64],
+    counts: &[u16],
+) -> Grouped
+    ensures { λ r. ⌜ r ≡ grouped (now (accounts .entry)) (now (counters .entry)) (now (pays .entry)) (now (counts .entry)) ⌝ }
+    ensures { λ r. ⌜ now (accounts .exit) ≡ cond (isGrouped r) (accountsBooked (now (accounts .entry)) (now (counters .entry)) (now (pays .entry)) (listed (now (counts .entry)))) (now (accounts .entry)) ⌝ }
+    ensures { λ r. ⌜ now (counters .exit) ≡ cond (isGrouped r) (countersBooked (now (counters .entry)) (listed (now (counts .entry)))) (now (counters .entry)) ⌝ }
+    ensures { λ r. ⌜ now (pays .exit) ≡ cond (isGrouped r) (paysBooked (now (counters .entry)) (now (pays .entry)) (listed (now (counts .entry)))) (now (pays .entry)) ⌝ }
+{
+    if !tables::look::is_state(accounts, counters, pays) {
+        return Grouped::Refused(Refusal::State);
+    }
+    held::settle::group(accounts, counters, pays, counts)
 }

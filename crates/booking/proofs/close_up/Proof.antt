@@ -6,7 +6,6 @@ use Prim.Native.Nat.{_<_, _-_}
 use native.Mathlib.Omega.{arith}
 use lib.ListN.{getD}
 use borrow.Author.Needs.{needs}
-use borrow.Rule.Slice.PartMut.{same-len-mid}
 use Rattle.finder.proofs.Tops.{payer-under}
 use Rattle.booking.proofs.Closing.{Closing, closing-start, closing-small, closing-keep, closing-go, closing-sum, closing-end}
 use Rattle.booking.proofs.close_up.Statement.{statement}
@@ -100,10 +99,7 @@ clear-requires : tie.Need-clear-requires Inv-loop μ-loop
 clear-requires c κs = search needs
 
 same-length : tie.Need-same-length Inv-loop μ-loop
-same-length c =
-    let s = c .before .before .before .before .before .before .before .before in
-    let l = c .before .before .before .before .before .loop in
-    same-len-mid (l .to) (s .args .used - l .to) (l .pays) (c .before .before .clear .last .0) (c .before .pays .given .0) ∙ l .inv .long
+same-length c = search needs
 
 same-length-2 : tie.Need-same-length-2 Inv-loop μ-loop
 same-length-2 c = c .before .before .before .before .before .loop .inv .members ∙ sym (c .before .before .before .before .before .before .before .before .pre .1)

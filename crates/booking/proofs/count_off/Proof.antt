@@ -1,8 +1,8 @@
 -- `booking::count_off` meets its contract: the block of what was settled, filled and put back, and the waiting lowered by the sum of the counts.
 use borrow.Author.Needs.{needs}
-use mathlib.Core.Path.{_≡_, ap, _∙_}
+use mathlib.Core.Path.{_≡_, sym, ap, _∙_, subst}
 use mathlib.Core.List.{List, _++_}
-use Prim.Native.Nat.{ℕ, _+_, _<_}
+use Prim.Native.Nat.{ℕ, _+_, _≤_, _<_}
 use native.Mathlib.Omega.{arith}
 use lib.ListN.{getD, take, drop, length-drop}
 use lib.Seq.{length-take-le, getD-take, getD-drop}
@@ -10,7 +10,7 @@ use borrow.Rule.Slice.PartMut.{putMid}
 use Rattle.rule.specs.Lists.{fillAt}
 use Rattle.rule.specs.Kernel.{sum}
 use Rattle.rule.proofs.Lists.{before-fill}
-use Rattle.tables.specs.Layout.{settledOf}
+use Rattle.tables.specs.Layout.{waitingOf, settledOf}
 use Rattle.booking.specs.Booking.{listed}
 use Rattle.booking.proofs.Filling.{fill-part}
 use Rattle.booking.proofs.count_off.Statement.{statement}
@@ -52,11 +52,18 @@ settled c =
 counted : (c : tie.After-tally) → c .tally .result ≡ sum 64 (listed (c .before .before .before .before .before .before .before .args .counts .now))
 counted c = let s = c .before .before .before .before .before .before .before in c .tally .ensures ∙ ap (λ n. sum n (listed (s .args .counts .now))) (s .pre .members)
 
+-- the block is not where the waiting are counted
+waiting : (c : tie.After-tally) → getD (putMid 128 64 (c .before .before .before .before .before .before .before .args .counters .now) (c .before .before .before .add-counts .last .0)) 1 0
+    ≡ waitingOf (c .before .before .before .before .before .before .before .args .counters .now)
+waiting c =
+    let s = c .before .before .before .before .before .before .before in
+    ap (λ l. getD l 1 0) (settled (c .before .before .before))
+    ∙ before-fill 128 64 (λ i. settledOf (s .args .counters .now) i + listed (s .args .counts .now) i) (s .args .counters .now) (omega (arith, s .pre .broad)) 1 0 (omega arith)
+
 sub-counters : tie.Need-sub-counters
 sub-counters c =
     let s = c .before .before .before .before .before .before .before .before in
-    rw (settled (c .before .before .before .before), before-fill 128 64 (λ i. settledOf (s .args .counters .now) i + listed (s .args .counts .now) i) (s .args .counters .now) (omega (arith, s .pre .broad)) 1 0 (omega arith), counted (c .before))
-    (s .pre .waits)
+    subst (λ n. c .before .tally .result ≤ n) (sym (waiting (c .before))) (subst (λ n. n ≤ waitingOf (s .args .counters .now)) (sym (counted (c .before))) (s .pre .waits))
 
 slice-write-counters : tie.Need-slice-write-counters
 slice-write-counters c = search needs
@@ -65,9 +72,7 @@ same-length : tie.Need-same-length
 same-length c = search needs
 
 returns : tie.Need-returns
-returns c =
-    let s = c .before .before .before .before .before .before .before .before in
-    rw (settled (c .before .before .before .before), before-fill 128 64 (λ i. settledOf (s .args .counters .now) i + listed (s .args .counts .now) i) (s .args .counters .now) (omega (arith, s .pre .broad)) 1 0 (omega arith), counted (c .before))
+returns c = rw (waiting (c .before), counted (c .before), settled (c .before .before .before .before))
 
 pub count-off-spec : {M : Type 1} → statement M
 count-off-spec =

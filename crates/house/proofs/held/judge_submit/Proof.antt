@@ -1,14 +1,17 @@
 -- `house::held::judge_submit` meets its contract: no loop; each test that was passed gives one part of the judgement.
 use borrow.Author.Needs.{needs}
 use borrow.Author.Tests.{lt-leb, le-leb, eq-eqb, ne-eqb}
-use mathlib.Core.Bool.{true, false}
+use mathlib.Core.Bool.{true, false, cond}
 use mathlib.Core.Path.{_≡_}
 use native.Mathlib.Omega.{arith}
-use lib.Dec.{eqb}
+use lib.Dec.{eqb, leb}
 use Rattle.tables.proofs.Tests.{flag-no, flag-yes}
 use Rattle.tables.specs.Layout.{waitingOf}
+use Rattle.tables.specs.Sizes.{places}
 use Rattle.house.specs.Codes.{isMember, isAmount}
-use Rattle.house.specs.Submit.{isNext}
+use Rattle.house.specs.Submit.{isNext, judgeSubmit}
+use Rattle.house.specs.declared.Refusal.the-variants.{Full}
+use Rattle.house.specs.declared.Judged.the-variants.{Fine, Bad}
 use Rattle.house.proofs.Judging.{member-in}
 use Rattle.house.proofs.held.judge_submit.Statement.{statement}
 use Rattle.house.proofs.held.judge_submit.Tie as tie
@@ -30,6 +33,10 @@ next c = flag-yes (c .before .is-next .ensures) (c .if5 .left)
 
 read : (c : tie.After-wide) → c .wide .result ≡ waitingOf (c .before .before .before .before .before .before .before .before .before .before .before .before .args .counters .now)
 read c = c .wide .ensures
+
+-- what is left to test at last
+left : (c : tie.Else5) → let s = c .before .before .before .before .before .before .before .before .before .before .args in judgeSubmit (s .counters .now) (s .payer) (s .number) (s .payee) (s .amount) ≡ cond (leb places (waitingOf (s .counters .now))) (Bad Full) Fine
+left c = rw (payer (c .before .before .before .before .before .before .before), payee (c .before .before .before .before .before), apart (c .before .before .before .before), amount (c .before .before), next c)
 
 is-member-requires : tie.Need-is-member-requires
 is-member-requires c κs = search needs
@@ -67,10 +74,10 @@ wide-requires : tie.Need-wide-requires
 wide-requires c κs = search needs
 
 returns-6 : tie.Need-returns-6
-returns-6 c = let u = read (c .before) in rw (payer (c .before .before .before .before .before .before .before .before .before .before), payee (c .before .before .before .before .before .before .before .before), apart (c .before .before .before .before .before .before .before), amount (c .before .before .before .before .before), next (c .before .before .before), le-leb 2048 (waitingOf (c .before .before .before .before .before .before .before .before .before .before .before .before .before .args .counters .now)) (omega arith))
+returns-6 c = let u = read (c .before) in rw (left (c .before .before .before), le-leb places (waitingOf (c .before .before .before .before .before .before .before .before .before .before .before .before .before .args .counters .now)) (omega arith))
 
 returns-7 : tie.Need-returns-7
-returns-7 c = let u = read (c .before) in rw (payer (c .before .before .before .before .before .before .before .before .before .before), payee (c .before .before .before .before .before .before .before .before), apart (c .before .before .before .before .before .before .before), amount (c .before .before .before .before .before), next (c .before .before .before), lt-leb 2048 (waitingOf (c .before .before .before .before .before .before .before .before .before .before .before .before .before .args .counters .now)) (omega arith))
+returns-7 c = let u = read (c .before) in rw (left (c .before .before .before), lt-leb places (waitingOf (c .before .before .before .before .before .before .before .before .before .before .before .before .before .args .counters .now)) (omega arith))
 
 pub judge-submit-spec : {M : Type 1} → statement M
 judge-submit-spec =

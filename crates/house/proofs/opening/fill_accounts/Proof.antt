@@ -1,10 +1,10 @@
 -- `house::opening::fill_accounts` meets its contract. The loop's invariant: the first k places hold what is opened there.
 use borrow.Author.Needs.{needs}
-use native.Mathlib.Omega.{arith}
 use Prim.Native.Nat.{_-_}
-use Rattle.house.proofs.Filling.{Filled, fill-start, fill-same, fill-more, fill-end}
+use native.Mathlib.Omega.{arith}
 use Rattle.rule.proofs.Ints.{plain}
 use Rattle.house.specs.Open.{accountOpened}
+use Rattle.house.proofs.Filling.{Filled, fill-start, fill-same, fill-more, fill-end}
 use Rattle.house.proofs.opening.fill_accounts.Statement.{statement}
 use Rattle.house.proofs.opening.fill_accounts.Tie as tie
 

@@ -1,9 +1,9 @@
 -- `house::opening::fill_pays` meets its contract. The loop's invariant: the first k places are 0.
 use borrow.Author.Needs.{needs}
-use native.Mathlib.Omega.{arith}
-use Prim.Native.Nat.{_-_}
-use Rattle.house.proofs.Filling.{Filled, fill-start, fill-same, fill-more, fill-end}
 use mathlib.Core.Path.{refl}
+use Prim.Native.Nat.{_-_}
+use native.Mathlib.Omega.{arith}
+use Rattle.house.proofs.Filling.{Filled, fill-start, fill-same, fill-more, fill-end}
 use Rattle.house.proofs.opening.fill_pays.Statement.{statement}
 use Rattle.house.proofs.opening.fill_pays.Tie as tie
 

@@ -1,0 +1,52 @@
+-- `house::release` meets its contract: no loop; the tables hold a state, or the answer is 1.
+use borrow.Author.Needs.{needs}
+use mathlib.Core.Path.{refl}
+use Rattle.tables.proofs.States.{state-holds}
+use Rattle.tables.proofs.Tests.{flag-no, flag-yes}
+use Rattle.house.proofs.release.Statement.{statement}
+use Rattle.house.proofs.release.Tie as tie
+
+is-state-requires : tie.Need-is-state-requires
+is-state-requires c κs = search needs
+
+same-length : tie.Need-same-length
+same-length c = search needs
+
+same-length-2 : tie.Need-same-length-2
+same-length-2 c = search needs
+
+same-length-3 : tie.Need-same-length-3
+same-length-3 c = search needs
+
+returns : tie.Need-returns
+returns c = (rw (flag-no (c .before .is-state .ensures) (c .if1 .taken)), (refl, (refl, refl)))
+
+release-requires : tie.Need-release-requires
+release-requires c κs = state-holds _ _ _ (flag-yes (c .before .before .before .before .is-state .ensures) (c .before .before .before .if1 .left))
+
+same-length-4 : tie.Need-same-length-4
+same-length-4 c = search needs
+
+same-length-5 : tie.Need-same-length-5
+same-length-5 c = search needs
+
+same-length-6 : tie.Need-same-length-6
+same-length-6 c = search needs
+
+returns-2 : tie.Need-returns-2
+returns-2 c = (rw (flag-yes (c .before .before .before .before .before .before .before .before .before .before .is-state .ensures) (c .before .before .before .before .before .before .before .before .before .if1 .left)) (c .before .before .before .before .before .release .ensures .0), c .before .before .before .before .before .release .ensures .1)
+
+pub release-spec : {M : Type 1} → statement M
+release-spec =
+    tie.close
+    (tie.spec
+    is-state-requires
+    same-length
+    same-length-2
+    same-length-3
+    returns
+    release-requires
+    same-length-4
+    same-length-5
+    same-length-6
+    returns-2)
