@@ -72,7 +72,7 @@ pub fn book(
 // ---- the steps
 
 // The first 64 accounts, which are the balances.
-fn balances(accounts: &[i64]) -> [i64; 64]
+pub fn balances(accounts: &[i64]) -> [i64; 64]
     requires { ⌜ 64 ≤ length (now accounts) ⌝ }
     ensures { λ r. ⌜ ((i : ℕ) → i < 64 → getD r i (pos 0) ≡ getD (now (accounts .entry)) i (pos 0)) ⌝ }
 {

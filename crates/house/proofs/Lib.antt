@@ -2,6 +2,9 @@ pub mod Filling
 pub mod Judging
 pub mod Counts
 pub mod Settles
+pub mod Highest
+pub mod Resolving
 pub mod Deposits
 pub mod Submits
 pub mod Opens
+pub mod Resolves

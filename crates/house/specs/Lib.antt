@@ -4,3 +4,5 @@ pub mod Deposit
 pub mod Submit
 pub mod Release
 pub mod Group
+pub mod Resolve
+pub mod Promises

@@ -1,4 +1,5 @@
 // Acting on tables that hold a state. Each call examines only what it touches.
+pub mod resolve;
 pub mod settle;
 
 use crate::Deposited;

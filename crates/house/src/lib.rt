@@ -1,13 +1,7 @@
 // The house: the calls on lent tables, their answers and codes. Each call looks at the tables, judges the request, and acts.
 ghost use mathlib.Core.Path.{_≡_};
-ghost use mathlib.Core.Bool.{cond};
-ghost use Rattle.booking.specs.Booking.{listed, accountsBooked, countersBooked, paysBooked};
 ghost use Rattle.house.specs.Codes.{codeOf};
-ghost use Rattle.house.specs.Open.{opened, isOpened, accountsOpened, countersOpened, paysOpened};
-ghost use Rattle.house.specs.Deposit.{deposited, isDeposited, accountsDeposited};
-ghost use Rattle.house.specs.Submit.{submitted, isSubmitted, countersSubmitted, paysSubmitted};
-ghost use Rattle.house.specs.Release.{released, isReleased, onlyHead};
-ghost use Rattle.house.specs.Group.{grouped, isGrouped};
+ghost use Rattle.house.specs.Promises.{OpenPromise, DepositPromise, SubmitPromise, ReleasePromise, GroupPromise, ResolvePromise};
 
 pub mod held;
 pub mod judge;
@@ -79,6 +73,32 @@ pub enum Grouped {
     Refused(Refusal),
 }
 
+// What a resolution found the queue to be.
+pub enum Verdict {
+    // Nothing waited.
+    Empty,
+    // All was settled.
+    Full,
+    // Some was settled.
+    Partial,
+    // Payments waited, and none was settled.
+    Deadlocked,
+}
+
+// What is told of a resolution: the verdict, how many payments, their sum, and the set of members with payments still waiting.
+pub struct Resolution {
+    pub verdict: Verdict,
+    pub payments: u64,
+    pub sum: u64,
+    pub waiting: u64,
+}
+
+// The answer of a resolution.
+pub enum Resolved {
+    Done(Resolution),
+    Refused(Refusal),
+}
+
 // The paper's number of a refusal.
 pub fn code(r: Refusal) -> u32
     ensures { λ n. ⌜ n ≡ codeOf r ⌝ }
@@ -109,10 +129,7 @@ pub fn open(
     balances: &[i64],
     lines: &[i64],
 ) -> Opened
-    ensures { λ r. ⌜ r ≡ opened (now (accounts .entry)) (now (counters .entry)) (now (pays .entry)) count (now (balances .entry)) (now (lines .entry)) ⌝ }
-    ensures { λ r. ⌜ now (accounts .exit) ≡ cond (isOpened r) (accountsOpened count (now (balances .entry)) (now (lines .entry)) (now (accounts .entry))) (now (accounts .entry)) ⌝ }
-    ensures { λ r. ⌜ now (counters .exit) ≡ cond (isOpened r) (countersOpened count (now (counters .entry))) (now (counters .entry)) ⌝ }
-    ensures { λ r. ⌜ now (pays .exit) ≡ cond (isOpened r) (paysOpened (now (pays .entry))) (now (pays .entry)) ⌝ }
+    ensures { λ r. ⌜ OpenPromise (now (accounts .entry)) (now (counters .entry)) (now (pays .entry)) count (now (balances .entry)) (now (lines .entry)) (now (accounts .exit)) (now (counters .exit)) (now (pays .exit)) r ⌝ }
 {
     let j = opening::judge(accounts, counters, pays, count, balances, lines);
     match j {
@@ -135,8 +152,7 @@ pub fn deposit(
     member: u64,
     amount: u64,
 ) -> Deposited
-    ensures { λ r. ⌜ r ≡ deposited (now (accounts .entry)) (now (counters .entry)) (now (pays .entry)) member amount ⌝ }
-    ensures { λ r. ⌜ now (accounts .exit) ≡ cond (isDeposited r) (accountsDeposited (now (accounts .entry)) member amount) (now (accounts .entry)) ⌝ }
+    ensures { λ r. ⌜ DepositPromise (now (accounts .entry)) (now (counters .entry)) (now (pays .entry)) member amount (now (accounts .exit)) r ⌝ }
 {
     if !tables::look::is_state(accounts, counters, pays) {
         return Deposited::Refused(Refusal::State);
@@ -154,9 +170,7 @@ pub fn submit(
     payee: u64,
     amount: u64,
 ) -> Submitted
-    ensures { λ r. ⌜ r ≡ submitted (now (accounts .entry)) (now (counters .entry)) (now (pays .entry)) payer number payee amount ⌝ }
-    ensures { λ r. ⌜ now (counters .exit) ≡ cond (isSubmitted r) (countersSubmitted (now (counters .entry)) payer number) (now (counters .entry)) ⌝ }
-    ensures { λ r. ⌜ now (pays .exit) ≡ cond (isSubmitted r) (paysSubmitted (now (counters .entry)) (now (pays .entry)) payer payee amount) (now (pays .entry)) ⌝ }
+    ensures { λ r. ⌜ SubmitPromise (now (accounts .entry)) (now (counters .entry)) (now (pays .entry)) payer number payee amount (now (counters .exit)) (now (pays .exit)) r ⌝ }
 {
     if !tables::look::is_state(accounts, counters, pays) {
         return Submitted::Refused(Refusal::State);
@@ -171,10 +185,7 @@ pub fn release(
     pays: &mut [u64],
     member: u64,
 ) -> Released
-    ensures { λ r. ⌜ r ≡ released (now (accounts .entry)) (now (counters .entry)) (now (pays .entry)) member ⌝ }
-    ensures { λ r. ⌜ now (accounts .exit) ≡ cond (isReleased r) (accountsBooked (now (accounts .entry)) (now (counters .entry)) (now (pays .entry)) (onlyHead member)) (now (accounts .entry)) ⌝ }
-    ensures { λ r. ⌜ now (counters .exit) ≡ cond (isReleased r) (countersBooked (now (counters .entry)) (onlyHead member)) (now (counters .entry)) ⌝ }
-    ensures { λ r. ⌜ now (pays .exit) ≡ cond (isReleased r) (paysBooked (now (counters .entry)) (now (pays .entry)) (onlyHead member)) (now (pays .entry)) ⌝ }
+    ensures { λ r. ⌜ ReleasePromise (now (accounts .entry)) (now (counters .entry)) (now (pays .entry)) member (now (accounts .exit)) (now (counters .exit)) (now (pays .exit)) r ⌝ }
 {
     if !tables::look::is_state(accounts, counters, pays) {
         return Released::Refused(Refusal::State);
@@ -189,13 +200,25 @@ pub fn group(
     pays: &mut [u64],
     counts: &[u16],
 ) -> Grouped
-    ensures { λ r. ⌜ r ≡ grouped (now (accounts .entry)) (now (counters .entry)) (now (pays .entry)) (now (counts .entry)) ⌝ }
-    ensures { λ r. ⌜ now (accounts .exit) ≡ cond (isGrouped r) (accountsBooked (now (accounts .entry)) (now (counters .entry)) (now (pays .entry)) (listed (now (counts .entry)))) (now (accounts .entry)) ⌝ }
-    ensures { λ r. ⌜ now (counters .exit) ≡ cond (isGrouped r) (countersBooked (now (counters .entry)) (listed (now (counts .entry)))) (now (counters .entry)) ⌝ }
-    ensures { λ r. ⌜ now (pays .exit) ≡ cond (isGrouped r) (paysBooked (now (counters .entry)) (now (pays .entry)) (listed (now (counts .entry)))) (now (pays .entry)) ⌝ }
+    ensures { λ r. ⌜ GroupPromise (now (accounts .entry)) (now (counters .entry)) (now (pays .entry)) (now (counts .entry)) (now (accounts .exit)) (now (counters .exit)) (now (pays .exit)) r ⌝ }
 {
     if !tables::look::is_state(accounts, counters, pays) {
         return Grouped::Refused(Refusal::State);
     }
     held::settle::group(accounts, counters, pays, counts)
+}
+
+// Settles the largest allowed set and writes its counts into the lent list, on any lent tables.
+pub fn resolve(
+    accounts: &mut [i64],
+    counters: &mut [u32],
+    pays: &mut [u64],
+    counts: &mut [u16],
+) -> Resolved
+    ensures { λ r. ⌜ ResolvePromise (now (accounts .entry)) (now (counters .entry)) (now (pays .entry)) (now (counts .entry)) (now (accounts .exit)) (now (counters .exit)) (now (pays .exit)) (now (counts .exit)) r ⌝ }
+{
+    if !tables::look::is_state(accounts, counters, pays) {
+        return Resolved::Refused(Refusal::State);
+    }
+    held::resolve::resolve(accounts, counters, pays, counts)
 }

@@ -13,7 +13,7 @@ same-length : tie.Need-same-length
 same-length c = search needs
 
 returns : tie.Need-returns
-returns c = (rw (flag-no (c .before .is-state .ensures) (c .if1 .taken)), refl)
+returns c = record { answer = rw (flag-no (c .before .is-state .ensures) (c .if1 .taken)); accounts = refl }
 
 deposit-requires : tie.Need-deposit-requires
 deposit-requires c κs = record { pays = c .before .before .before .before .before .before .args .pays .now; holds = state-holds _ _ _ (flag-yes (c .before .before .is-state .ensures) (c .before .if1 .left)) }
@@ -22,7 +22,7 @@ same-length-2 : tie.Need-same-length-2
 same-length-2 c = search needs
 
 returns-2 : tie.Need-returns-2
-returns-2 c = (rw (flag-yes (c .before .before .before .before .is-state .ensures) (c .before .before .before .if1 .left)) (c .before .deposit .ensures .0), c .before .deposit .ensures .1)
+returns-2 c = record { answer = rw (flag-yes (c .before .before .before .before .is-state .ensures) (c .before .before .before .if1 .left)) (c .before .deposit .ensures .0); accounts = c .before .deposit .ensures .1 }
 
 pub deposit-spec : {M : Type 1} → statement M
 deposit-spec =

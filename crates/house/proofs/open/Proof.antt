@@ -51,7 +51,7 @@ same-length-3 : tie.Need-same-length-3
 same-length-3 c = search needs
 
 returns : tie.Need-returns
-returns c = (sym (ap (answerOpen (c .before .before .before .before .before .before .before .before .before .args .count) (c .before .before .before .before .before .before .before .before .before .args .balances .now)) (sym (c .before .before .before .judge .ensures) ∙ c .before .j .given .1)), (refl, (refl, refl)))
+returns c = record { answer = sym (ap (answerOpen (c .before .before .before .before .before .before .before .before .before .args .count) (c .before .before .before .before .before .before .before .before .before .args .balances .now)) (sym (c .before .before .before .judge .ensures) ∙ c .before .j .given .1)); accounts = refl; counters = refl; pays = refl }
 
 same-length-4 : tie.Need-same-length-4
 same-length-4 c = search needs
@@ -67,7 +67,12 @@ returns-2 c =
     let s = c .before .before .before .before .before .before .before .before .before .before .before .before .before .before .before .before .before .before .before .before in
     let r = c .total .ok in
     let e : c .total .result ≡ money (s .args .count) (entry (s .args .balances .now)) = rw (accepted (c .before .before .before .before .before .before .before .before .before .before .before .before) .opening .balances) at (c .total .ensures) in
-    (simp plain (ap Done e ∙ sym (ap (answerOpen (s .args .count) (s .args .balances .now)) (fine (c .before .before .before .before .before .before .before .before .before .before .before .before)))), (c .before .before .before .before .before .before .before .before .before .before .fill-accounts .ensures, (c .before .before .before .before .before .before .before .fill-counters .ensures, c .before .before .before .fill-pays .ensures)))
+    record {
+      answer = simp plain (ap Done e ∙ sym (ap (answerOpen (s .args .count) (s .args .balances .now)) (fine (c .before .before .before .before .before .before .before .before .before .before .before .before))));
+      accounts = c .before .before .before .before .before .before .before .before .before .before .fill-accounts .ensures;
+      counters = c .before .before .before .before .before .before .before .fill-counters .ensures;
+      pays = c .before .before .before .fill-pays .ensures;
+    }
 
 pub open-spec : {M : Type 1} → statement M
 open-spec =

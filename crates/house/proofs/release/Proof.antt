@@ -19,7 +19,7 @@ same-length-3 : tie.Need-same-length-3
 same-length-3 c = search needs
 
 returns : tie.Need-returns
-returns c = (rw (flag-no (c .before .is-state .ensures) (c .if1 .taken)), (refl, (refl, refl)))
+returns c = record { answer = rw (flag-no (c .before .is-state .ensures) (c .if1 .taken)); accounts = refl; counters = refl; pays = refl }
 
 release-requires : tie.Need-release-requires
 release-requires c κs = state-holds _ _ _ (flag-yes (c .before .before .before .before .is-state .ensures) (c .before .before .before .if1 .left))
@@ -34,7 +34,9 @@ same-length-6 : tie.Need-same-length-6
 same-length-6 c = search needs
 
 returns-2 : tie.Need-returns-2
-returns-2 c = (rw (flag-yes (c .before .before .before .before .before .before .before .before .before .before .is-state .ensures) (c .before .before .before .before .before .before .before .before .before .if1 .left)) (c .before .before .before .before .before .release .ensures .0), c .before .before .before .before .before .release .ensures .1)
+returns-2 c =
+    let e = c .before .before .before .before .before .release .ensures in
+    record { answer = rw (flag-yes (c .before .before .before .before .before .before .before .before .before .before .is-state .ensures) (c .before .before .before .before .before .before .before .before .before .if1 .left)) (e .0); accounts = e .1 .0; counters = e .1 .1 .0; pays = e .1 .1 .1 }
 
 pub release-spec : {M : Type 1} → statement M
 release-spec =

@@ -16,7 +16,7 @@ same-length-2 : tie.Need-same-length-2
 same-length-2 c = search needs
 
 returns : tie.Need-returns
-returns c = (rw (flag-no (c .before .is-state .ensures) (c .if1 .taken)), (refl, refl))
+returns c = record { answer = rw (flag-no (c .before .is-state .ensures) (c .if1 .taken)); counters = refl; pays = refl }
 
 submit-requires : tie.Need-submit-requires
 submit-requires c κs = record { accounts = c .before .before .before .before .before .before .before .before .args .accounts .now; holds = state-holds _ _ _ (flag-yes (c .before .before .before .is-state .ensures) (c .before .before .if1 .left)) }
@@ -28,7 +28,7 @@ same-length-4 : tie.Need-same-length-4
 same-length-4 c = search needs
 
 returns-2 : tie.Need-returns-2
-returns-2 c = let e = c .before .before .before .before .submit .ensures in (rw (flag-yes (c .before .before .before .before .before .before .before .before .is-state .ensures) (c .before .before .before .before .before .before .before .if1 .left)) (e .0), (e .1 .0, e .1 .1))
+returns-2 c = let e = c .before .before .before .before .submit .ensures in record { answer = rw (flag-yes (c .before .before .before .before .before .before .before .before .is-state .ensures) (c .before .before .before .before .before .before .before .if1 .left)) (e .0); counters = e .1 .0; pays = e .1 .1 }
 
 pub submit-spec : {M : Type 1} → statement M
 submit-spec =
