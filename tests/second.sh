@@ -1,6 +1,6 @@
 #!/bin/sh
-# The second program: its own tests, and its reading of document 01 against itself on houses made up from a seed. Ends in
-# 'N passed, M failed'.
+# The second program: its own tests, its reading of document 01 against itself on houses made up from a seed, and the table of cases
+# against the proved calls. Ends in 'N passed, M failed'.
 set -u
 cd "$(dirname "$0")/second" || exit 2
 command -v cargo >/dev/null || { echo "second: cargo is not on the PATH (the package 'cargo' has it)" >&2; echo "0 passed, 1 failed"; exit 1; }
@@ -24,6 +24,12 @@ if cargo build --release --offline --quiet && "$CARGO_TARGET_DIR/release/second"
 else
     failed=$((failed + 1))
     cat "$log"
+fi
+# The stored output of the program `cases` is what the second program makes of the same table of cases.
+if "$CARGO_TARGET_DIR/release/cases" ../../crates/cases/src/rows.rt | cmp - ../../crates/cases/stdout; then
+    passed=$((passed + 1))
+else
+    failed=$((failed + 1))
 fi
 echo "second: self-test with seed $seed, 3000 rounds"
 echo "$passed passed, $failed failed"
