@@ -1,0 +1,35 @@
+-- `calls::group` meets its contract: no loop; the room for counts is as long as the bytes say.
+use mathlib.Core.Path.{sym, _∙_}
+use lib.Seq.{length-take-le}
+use borrow.Author.Needs.{needs}
+use Rattle.calls.proofs.group.Statement.{statement}
+use Rattle.calls.proofs.group.Tie as tie
+
+entries-of-requires : tie.Need-entries-of-requires
+entries-of-requires c κs = search needs
+
+array-borrow-prefix-k : tie.Need-array-borrow-prefix-k
+array-borrow-prefix-k c = search needs
+
+slice-aggregate-group-list : tie.Need-slice-aggregate-group-list
+slice-aggregate-group-list c = sym (length-take-le _ _ (c .before .before .entries-of .ensures .2))
+
+group-list-requires : tie.Need-group-list-requires
+group-list-requires c κs = (c .before .before .before .before .before .pre, rw (sym (slice-aggregate-group-list c)) (c .before .before .entries-of .ensures .1))
+
+same-length : tie.Need-same-length
+same-length c = search needs
+
+returns : tie.Need-returns
+returns c = let e = sym (slice-aggregate-group-list (c .before .before .before .before)) ∙ c .before .before .before .before .before .before .entries-of .ensures .0 in rw e at (c .before .before .before .group-list .ensures)
+
+pub group-spec : {M : Type 1} → statement M
+group-spec =
+    tie.close
+    (tie.spec
+    entries-of-requires
+    array-borrow-prefix-k
+    slice-aggregate-group-list
+    group-list-requires
+    same-length
+    returns)

@@ -1,0 +1,49 @@
+-- The house in lent bytes: where its three lists stand, and which lent slices are long enough (docs/BYTES.md).
+use mathlib.Core.Bool.{Bool, cond, _&&_}
+use mathlib.Core.List.{List}
+use Prim.Native.Nat.{ℕ, _/_, _%_}
+use lib.Dec.{eqb, leb}
+use lib.IntN.{ℤ}
+use lib.ListN.{length}
+use mir.Syntax.{w64}
+use mir.Val.{toZ, ofZ}
+use Rattle.words.specs.Row.{rowAt, putRow, plain}
+
+-- the 512 accounts in the bytes s
+abbrev pub accountsIn : List ℕ → List ℤ
+accountsIn s = rowAt (toZ w64) 8 512 s 0
+
+-- the 512 counters
+abbrev pub countersIn : List ℕ → List ℕ
+countersIn s = rowAt plain 4 512 s 4096
+
+-- the 2,048 places
+abbrev pub paysIn : List ℕ → List ℕ
+paysIn s = rowAt plain 8 2048 s 6144
+
+-- the bytes s with the accounts a, the counters c and the places p in them, and no other byte changed
+abbrev pub withLists : List ℕ → List ℤ → List ℕ → List ℕ → List ℕ
+withLists s a c p = putRow plain 8 (putRow plain 4 (putRow (ofZ w64) 8 s 0 a) 4096 c) 6144 p
+
+-- the tables are long enough
+abbrev pub roomy : ℕ → Bool
+roomy n = leb 22528 n
+
+-- the tables s are long enough, and the answer t has room for least bytes
+abbrev pub lent : List ℕ → List ℕ → ℕ → Bool
+lent s t least = roomy (length s) && leb least (length t)
+
+-- ---- lent lists
+
+-- how many numbers of w bytes n bytes hold, to the byte: none if that leaves a rest, or if they are more than 64. No house has no
+-- members, so a list of none is one of the wrong length.
+abbrev pub entries : ℕ → ℕ → ℕ
+entries w n = cond (eqb (n % w) 0 && leb (n / w) 64) (n / w) 0
+
+-- the counts in the bytes t, 2 bytes each
+abbrev pub countsIn : List ℕ → List ℕ
+countsIn t = rowAt plain 2 (entries 2 (length t)) t 0
+
+-- the balances or lines in the bytes t, 8 bytes each
+abbrev pub signedIn : List ℕ → List ℤ
+signedIn t = rowAt (toZ w64) 8 (entries 8 (length t)) t 0

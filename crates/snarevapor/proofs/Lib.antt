@@ -1,0 +1,4 @@
+pub mod Replies
+pub mod Resolves
+pub mod Unique
+pub mod Refusals
