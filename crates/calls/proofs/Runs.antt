@@ -49,6 +49,7 @@ module _ (s : List ℕ) {a : List ℤ} {c p : List ℕ} (ea : a ≡ accountsIn s
       subst (λ (p : List ℕ). P (accountsIn s) (countersIn s) p) ep
       (subst (λ (c : List ℕ). P (accountsIn s) c p) ec (subst (λ (a : List ℤ). P a c p) ea h))
 
+  -- so for each call: the answer is the house's on the lists in the bytes, and the tables after it are those that the reply says
   pub deposit-runs : {m x : ℕ} {a′ : List ℤ} {s′ : List ℕ} (b : Bool) (r : Deposited) → DepositPromise a c p m x a′ r
       → isDeposited r ≡ b → s′ ≡ putBack b s a′ c p → (r ≡ depositIn s m x) × (s′ ≡ depositTold s m x r .tables)
   deposit-runs {m} {x} {a′} b (Done y) d e q =
@@ -96,5 +97,6 @@ told-counts : (b : Bool) (u k′ : List ℕ) {u′ : List ℕ} (y : Resolved) �
 told-counts b u k′ (Settled x) e q = q ∙ chosen b true _ _ e
 told-counts b u k′ (Unsettled r) e q = q ∙ chosen b false _ _ e
 
+-- so the lists and the counts together are what a resolution promises
 pub resolving : (b : Bool) (u : List ℕ) {s k s′ k′ u′ : List ℕ} {y : Resolved} → Listed s k s′ k′ y → isResolved y ≡ b → u′ ≡ cond b (putRow plain 2 u 0 k′) u → Resolving s u k s′ u′ y
 resolving b u {s} {k} {s′} {k′} {u′} {y} l e q = record { counts = k′; lists = l; told = told-counts b u k′ y e q }

@@ -27,6 +27,7 @@ module _ (w n : ℕ) where
   pub entries-all : n % w ≡ 0 → n / w ≤ 64 → entries w n ≡ n / w
   entries-all e h = rw (eq-eqb (n % w) 0 e, le-leb (n / w) 64 h)
 
+  -- so many fit into the bytes
   pub entries-within : n / w * w ≤ n
   entries-within = omega (arith, div-add-mod' n w)
 

@@ -68,6 +68,7 @@ kept {s} {t} {s′} {t′} {y} {k} h r n =
     let m : y .code ≢ 0 = λ e. n (r .code ∙ e) in
     (r .tables ∙ h .tables m, r .answer ∙ ap (putRow plain 8 t 0) (h .parts m) ∙ told-none t)
 
+-- and so with a submission
 pub stored-kept : {s s′ : List ℕ} {y : Reply} {k : ℕ} → Keeps s y → Stored y s′ k → k ≢ 0 → s′ ≡ s
 stored-kept {y = y} h r n = r .tables ∙ h .tables (λ e. n (r .code ∙ e))
 

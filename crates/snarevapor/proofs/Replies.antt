@@ -38,6 +38,7 @@ told-signed t f e = rw (toZ-ofZ {w = w64} f) at e
 pub short-stored : {s : List ℕ} {b : Bool} (y : Reply) → b ≡ false → Stored (cond b y (refused s State)) s 1
 short-stored {s} {b} y e = subst (λ (b : Bool). Stored (cond b y (refused s State)) s 1) (sym e) (record { code = refl; tables = refl })
 
+-- and tell nothing
 pub short : {s t : List ℕ} {b : Bool} (y : Reply) → b ≡ false → Replied (cond b y (refused s State)) t s t 1
 short {s} {t} {b} y e =
     subst (λ (b : Bool). Replied (cond b y (refused s State)) t s t 1) (sym e) (record { code = refl; tables = refl; answer = sym (told-none t) })
@@ -47,10 +48,12 @@ module _ {D : Type 0} (F : D → Reply) {w v u : D} {b : Bool} (z : Reply) (long
   reply-of : F u ≡ cond b (F w) z
   reply-of = ap F (sym is ∙ answered) ∙ sym (ap (λ (b : Bool). cond b (F w) z) long)
 
+  -- of a call that tells nothing but its code
   pub stored : {s′ : List ℕ} {k : ℕ} → s′ ≡ F v .tables → k ≡ F u .code → Stored (cond b (F w) z) s′ k
   stored {s′} {k} e n =
       subst (λ (y : Reply). Stored y s′ k) reply-of (record { code = n; tables = e ∙ ap (λ (d : D). F d .tables) is })
 
+  -- of a call that writes an answer
   pub replied : {s′ t t′ : List ℕ} {k : ℕ} → s′ ≡ F v .tables → k ≡ F u .code → t′ ≡ putRow plain 8 t 0 (F u .parts) → Replied (cond b (F w) z) t s′ t′ k
   replied {s′} {t} {t′} {k} e n a =
       subst (λ (y : Reply). Replied y t s′ t′ k) reply-of (record { code = n; tables = e ∙ ap (λ (d : D). F d .tables) is; answer = a })

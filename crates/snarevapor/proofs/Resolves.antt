@@ -1,14 +1,12 @@
 -- From what the house answered to a resolution, and what was written of it, the reply follows.
 use mathlib.Core.Path.{_≡_, refl, sym, ap, subst, _∙_}
-use mathlib.Core.Bool.{Bool, true, false, cond}
+use mathlib.Core.Bool.{Bool, true, false}
 use mathlib.Core.List.{List}
 use Prim.Native.Nat.{ℕ}
 use Rattle.words.specs.Row.{putRow, plain}
-use Rattle.house.specs.Resolve.{isResolved}
 use Rattle.house.specs.declared.Resolved.{Resolved}
-use Rattle.house.specs.declared.Resolved.the-variants.{Done, Refused}
 use Rattle.lists.specs.Bytes.{countsIn}
-use Rattle.calls.specs.Resolve.{resolveTold, countsTold, Listed, Resolving, Resolve}
+use Rattle.calls.specs.Resolve.{resolveTold, Resolving, Resolve}
 use Rattle.snarevapor.proofs.Replies.{told-none}
 
 -- lent slices that are too short change nothing

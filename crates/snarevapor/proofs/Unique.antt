@@ -19,6 +19,7 @@ use Rattle.calls.specs.Resolve.{resolveTold, countsTold, Answered, Resolve}
 replied-same : {y : Reply} {t s₁ s₂ t₁ t₂ : List ℕ} {k₁ k₂ : ℕ} → Replied y t s₁ t₁ k₁ → Replied y t s₂ t₂ k₂ → (s₁ ≡ s₂) × (t₁ ≡ t₂) × (k₁ ≡ k₂)
 replied-same p q = (p .tables ∙ sym (q .tables), p .answer ∙ sym (q .answer), p .code ∙ sym (q .code))
 
+-- of the calls with an answer,
 module _ (s t : List ℕ) {s₁ s₂ t₁ t₂ : List ℕ} {k₁ k₂ : ℕ} where
   pub open-unique : (n : ℕ) (u v : List ℕ) → Replied (openReply s n u v t) t s₁ t₁ k₁ → Replied (openReply s n u v t) t s₂ t₂ k₂ → (s₁ ≡ s₂) × (t₁ ≡ t₂) × (k₁ ≡ k₂)
   open-unique n u v = replied-same
@@ -32,6 +33,7 @@ module _ (s t : List ℕ) {s₁ s₂ t₁ t₂ : List ℕ} {k₁ k₂ : ℕ} whe
   pub group-unique : (u : List ℕ) → Replied (groupReply s u t) t s₁ t₁ k₁ → Replied (groupReply s u t) t s₂ t₂ k₂ → (s₁ ≡ s₂) × (t₁ ≡ t₂) × (k₁ ≡ k₂)
   group-unique u = replied-same
 
+-- of a submission,
 pub submit-unique : (s : List ℕ) (m n q x : ℕ) {s₁ s₂ : List ℕ} {k₁ k₂ : ℕ} → Stored (submitReply s m n q x) s₁ k₁ → Stored (submitReply s m n q x) s₂ k₂ → (s₁ ≡ s₂) × (k₁ ≡ k₂)
 submit-unique s m n q x a b = (a .tables ∙ sym (b .tables), a .code ∙ sym (b .code))
 
@@ -52,5 +54,6 @@ resolve-same : (b : Bool) (s u t : List ℕ) {s₁ s₂ u₁ u₂ t₁ t₂ : Li
 resolve-same true s u t p q = answered-same p q
 resolve-same false s u t p q = let r = replied-same (p .0) (q .0) in (r .0, p .1 ∙ sym (q .1), r .1, r .2)
 
+-- and of a resolution
 pub resolve-unique : (s u t : List ℕ) {s₁ s₂ u₁ u₂ t₁ t₂ : List ℕ} {k₁ k₂ : ℕ} → Resolve (lent s t 48) s u t s₁ u₁ t₁ k₁ → Resolve (lent s t 48) s u t s₂ u₂ t₂ k₂ → (s₁ ≡ s₂) × (u₁ ≡ u₂) × (t₁ ≡ t₂) × (k₁ ≡ k₂)
 resolve-unique s u t p q = resolve-same (lent s t 48) s u t p q

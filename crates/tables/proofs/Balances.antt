@@ -97,7 +97,8 @@ low-of m (pos n) h = omega arith
 low-of m (negsuc n) h = omega arith
 
 module _ {a : List ℤ} {c p : List ℕ} (h : Holds a c p) where
-  holds-low : (i : ℕ) → i < 64 → down (balanceOf a i) ≤ limit
+  -- no balance of what holds document 01's list is below minus the highest line,
+  pub holds-low : (i : ℕ) → i < 64 → down (balanceOf a i) ≤ limit
   holds-low i q = elim (decLt i (countOf c)) [
     | yes l ↦
         let o = h .holders i l in
@@ -108,7 +109,7 @@ module _ {a : List ℤ} {c p : List ℕ} (h : Holds a c p) where
     | no l ↦ rw (h .no-balance i (omega arith) q) (omega arith)
   ]
 
-  -- each balance of what holds document 01's list is near zero
+  -- and each is near zero
   pub holds-near : (i : ℕ) → i < 64 → Near highest (balanceOf a i)
   holds-near i q =
       let t1 = ≤ℤ-is (moneyOf a) (pos most) (h .sum) in

@@ -30,7 +30,7 @@ use Rattle.tables.proofs.Counting.{queue-short}
 -- ---- the queues of a table
 
 -- what holds of each payment of a table holds of each in a queue, and the queue's are of its payer
-queue-each : (P : ℕ → Type 0) (i : ℕ) (t : List ℕ) → ((k : ℕ) → k < length t → P (getD t k 0))
+pub queue-each : (P : ℕ → Type 0) (i : ℕ) (t : List ℕ) → ((k : ℕ) → k < length t → P (getD t k 0))
     → (k : ℕ) → k < length (queueOf i t) → P (getD (queueOf i t) k 0) × (payerOf (getD (queueOf i t) k 0) ≡ i)
 queue-each P i [] f = λ k h. absurd (omega arith)
 queue-each P i (w ∷ ws) f = go (eqb (payerOf w) i) refl (queue-each P i ws (λ k h. f (suc k) (omega arith)))

@@ -1,0 +1,7 @@
+pub mod Opening
+pub mod Day
+pub mod Settling
+pub mod Ending
+pub mod Stages
+pub mod Amounts
+pub mod Kept

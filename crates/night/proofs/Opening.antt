@@ -1,0 +1,84 @@
+-- What the lines of the opening do, case by case.
+use mathlib.Core.Path.{_≡_, _∙_}
+use mathlib.Core.Bool.{cond}
+use mathlib.Core.List.{List}
+use Prim.Native.Nat.{ℕ, _+_, _≤_, _<_, _^_}
+use native.Mathlib.Omega.{arith}
+use borrow.Author.Tests.{lt-leb, le-leb, lt-ltb, le-ltb, eq-eqb, ne-eqb}
+use native.Mathlib.Numerals.{add-one}
+use lib.IntN.{ℤ, pos, natAbs}
+use lib.ListN.{length, getD, take, drop, set, length-drop}
+use lib.Seq.{take-suc, take-suc-set, getD-drop}
+use mir.Syntax.{w64}
+use mir.Val.{toZ, ofZ}
+use mir.Facts.{toZ-ofZ}
+use lib.Signed.{mag}
+use Rattle.rule.proofs.Ints.{held}
+use Rattle.numbers.specs.Numbers.{mostDigits}
+use Rattle.numbers.proofs.Signs.{held-small}
+use Rattle.house.specs.Open.{opened, isOpened, accountsOpened, countersOpened, paysOpened}
+use Rattle.house.specs.declared.Opened.{Opened}
+use Rattle.house.specs.declared.Opened.the-variants as opening
+use Rattle.house.specs.declared.Refusal.{Refusal}
+use Rattle.house.specs.declared.Refusal.the-variants.{Opening, Line}
+use Rattle.dayfile.specs.declared.Entry.{Entry}
+use Rattle.dayfile.specs.declared.Entry.the-variants as E
+use Rattle.print.specs.declared.Says.the-variants as S
+use Rattle.night.specs.declared.Stage.the-variants as G
+use Rattle.night.specs.declared.Said.the-variants.{One}
+use Rattle.night.specs.declared.Does.{Does}
+use Rattle.night.specs.Lines.{Tables, did, quiet, refusal, stops, houseDoes, given, memberDoes, openSays, openStage, balancesGiven, linesGiven, openDoes}
+
+module _ (n : ℕ) (t : Tables) (e : Entry) (count : ℕ) (q : e ≡ E.House count) where
+  -- a count of 0 stops the night,
+  pub house-none : count < 1 → houseDoes n t e ≡ stops n Opening t
+  house-none h = rw (q, lt-leb 1 count h)
+
+  -- one above 64 too,
+  pub house-many : 1 ≤ count → 64 < count → houseDoes n t e ≡ stops n Opening t
+  house-many h l = rw (q, le-leb 1 count h, lt-leb count 64 l)
+
+  -- and the others begin the member lines
+  pub house-opens : 1 ≤ count → count ≤ 64 → houseDoes n t e ≡ quiet (G.Members count 0) t
+  house-opens h l = rw (q, le-leb 1 count h, le-leb count 64 l)
+
+-- what was stored is what was given
+pub give-did : (a a₁ : List ℤ) (k : ℕ) (b : ℤ) (l : ℕ) → natAbs b < 10 ^ mostDigits → a₁ ≡ set (set a k (toZ w64 (ofZ w64 b))) (64 + k) (pos l) → a₁ ≡ set (set a k b) (64 + k) (pos l)
+give-did a a₁ k b l h q = q ∙ rw (toZ-ofZ {w = w64} (held-small b h))
+
+module _ (n count k : ℕ) (t : Tables) (e : Entry) (m : ℕ) (b : ℤ) (l : ℕ) (q : e ≡ E.Member m b l) where
+  -- any number but the next stops the night,
+  pub member-other : (m ≡ k + 1 → ⊥) → memberDoes n count k t e ≡ stops n Line t
+  member-other h = rw (q, ne-eqb m (k + 1) h)
+
+  -- a member before the last is given,
+  pub member-given : m ≡ k + 1 → k + 1 < count → memberDoes n count k t e ≡ quiet (G.Members count (k + 1)) (given t k b l)
+  member-given h j = rw (q, eq-eqb m (k + 1) h, lt-ltb (k + 1) count j)
+
+  -- and the last opens the house
+  pub member-opens : m ≡ k + 1 → count ≤ k + 1 → memberDoes n count k t e ≡ openDoes n count (given t k b l)
+  member-opens h j = rw (q, eq-eqb m (k + 1) h, le-ltb (k + 1) count j)
+
+-- one account more of those from a place on
+pub block-turn : (b a : List ℤ) (from i : ℕ) (x : ℤ) → i < length b → from + i < length a → x ≡ getD a (from + i) (pos 0)
+    → take i b ≡ take i (drop from a) → take (i + 1) (set b i x) ≡ take (i + 1) (drop from a)
+block-turn b a from i x l h e q =
+    let j : i < length (drop from a) = omega (arith, length-drop from a) in
+    rw (add-one, take-suc-set b i x l, take-suc (drop from a) i (pos 0) j, getD-drop, q, e)
+
+-- what opening the house did, from what the call answered and left
+module _ (n count : ℕ) (t : Tables) (r : Does) (o : Opened) where
+  pub open-accepted : (s : ℤ) → mag s < 2 ^ 63 → o ≡ opening.Done s → r ≡ record { said = One (S.Open n count (toZ w64 (ofZ w64 s))); stage = G.Day }
+      → r ≡ record { said = One (openSays n count o); stage = openStage o }
+  open-accepted s h e q = q ∙ rw (e, toZ-ofZ {w = w64} (held s h))
+
+  pub open-refused : (k : Refusal) → o ≡ opening.Refused k → r ≡ record { said = One (refusal n k); stage = G.Over } → r ≡ record { said = One (openSays n count o); stage = openStage o }
+  open-refused k e q = q ∙ rw e
+
+  pub open-did : (b l a₁ : List ℤ) (c₁ p₁ : List ℕ) → r ≡ record { said = One (openSays n count o); stage = openStage o }
+      → b ≡ balancesGiven count t → l ≡ linesGiven count t → o ≡ opened (t .accounts) (t .counters) (t .pays) count b l
+      → a₁ ≡ cond (isOpened o) (accountsOpened count b l (t .accounts)) (t .accounts)
+      → c₁ ≡ cond (isOpened o) (countersOpened count (t .counters)) (t .counters)
+      → p₁ ≡ cond (isOpened o) (paysOpened (t .pays)) (t .pays)
+      → did r a₁ c₁ p₁ ≡ openDoes n count t
+  open-did b l a₁ c₁ p₁ q eb el eo ea ec ep = rw (q, ea, ec, ep, eo, eb, el)

@@ -1,0 +1,106 @@
+-- The sheet of a day file, over all its bytes (document 01, "The day file and the sheet"): the night between lines, what a line makes of
+-- it, and the end of the input.
+use mathlib.Core.Bool.{Bool, true, false, cond}
+use mathlib.Core.List.{List, [], _∷_, _++_}
+use Prim.Native.Nat.{ℕ, _+_}
+use lib.Dec.{ltb}
+use lib.IntN.{pos}
+use lib.ListN.{drop, replicate}
+use Rattle.house.specs.declared.Refusal.the-variants as R
+use Rattle.dayfile.specs.declared.Entry.{Entry}
+use Rattle.dayfile.specs.declared.Entry.the-variants as E
+use Rattle.dayfile.specs.Entries.{entryOf, countsOf}
+use Rattle.cut.specs.Lines.{Line, text, long, linesOf}
+use Rattle.cut.specs.Chunks.{runOf}
+use Rattle.print.specs.declared.Says.{Says}
+use Rattle.print.specs.Lines.{textOf}
+use Rattle.night.specs.declared.Stage.{Stage}
+use Rattle.night.specs.declared.Stage.the-variants as G
+use Rattle.night.specs.declared.Said.{Said}
+use Rattle.night.specs.declared.Said.the-variants as D
+use Rattle.night.specs.Lines.{Tables, tables, Did, refusal, doesOf, endSays}
+
+-- the most lines of a day file
+abbrev pub mostLines : ℕ
+mostLines = 1_000_000
+
+-- lines read so far, the stage, the tables, and the sheet so far
+pub record Night : Type 0 where
+  pub lines : ℕ
+  pub stage : Stage
+  pub tables : Tables
+  pub sheet : List ℕ
+
+abbrev pub textsOf : List Says → List ℕ
+textsOf [] = []
+textsOf (s ∷ ss) = textOf s ++ textsOf ss
+
+abbrev pub saidText : Said → List ℕ
+saidText D.Nothing = []
+saidText (D.One s) = textOf s
+
+-- what a stage has still to say: at `end`, the lines behind the first k
+abbrev pub restText : Stage → Tables → List ℕ
+restText G.House t = []
+restText (G.Members count k) t = []
+restText G.Day t = []
+restText (G.Ending k) t = textsOf (drop k (endSays t))
+restText G.Over t = []
+
+-- the stage once that is said
+abbrev pub told : Stage → Stage
+told G.House = G.House
+told (G.Members count k) = G.Members count k
+told G.Day = G.Day
+told (G.Ending k) = G.Over
+told G.Over = G.Over
+
+abbrev pub isOver : Stage → Bool
+isOver G.House = false
+isOver (G.Members count k) = false
+isOver G.Day = false
+isOver (G.Ending k) = false
+isOver G.Over = true
+
+-- what a line says; one that is too long is bad
+abbrev pub entryIn : Line → Entry
+entryIn (text s) = entryOf s
+entryIn long = E.Bad
+
+abbrev pub countsIn : Line → List ℕ
+countsIn (text s) = countsOf s
+countsIn long = []
+
+-- the night after a line that did r
+abbrev pub after : Night → Did → Night
+after d r =
+    record {
+      lines = d .lines + 1;
+      stage = told (r .stage);
+      tables = r .after;
+      sheet = d .sheet ++ (saidText (r .said) ++ restText (r .stage) (r .after));
+    }
+
+-- a line past the most: it is refused, and the night stops
+abbrev pub stopped : Night → Night
+stopped d = record { lines = d .lines; stage = G.Over; tables = d .tables; sheet = d .sheet ++ textOf (refusal (d .lines + 1) R.Line) }
+
+-- the night after a line; once it is over, nothing is read
+abbrev pub stepOf : Night → Line → Night
+stepOf d l =
+    cond (isOver (d .stage)) d
+    (cond (ltb (d .lines) mostLines)
+    (after d (doesOf (d .lines + 1) (d .stage) (d .tables) (entryIn l) (countsIn l)))
+    (stopped d))
+
+-- before the first line: empty tables
+abbrev pub morning : Night
+morning = record { lines = 0; stage = G.House; tables = tables (replicate 512 (pos 0)) (replicate 512 0) (replicate 2048 0); sheet = [] }
+
+-- the sheet at the end of the input: a night that is not over is refused
+abbrev pub closed : Night → List ℕ
+closed d = d .sheet ++ cond (isOver (d .stage)) [] (textOf (refusal 0 R.Line))
+
+-- the sheet of a file
+abbrev pub sheetOf : List ℕ → List ℕ
+sheetOf s = closed (runOf stepOf morning (linesOf s))
