@@ -1,5 +1,7 @@
 // One row of the table of cases: the call, and what is told of it.
+ghost use mathlib.Core.Path.{_≡_};
 ghost use Prim.Native.Nat.{_≤_};
+ghost use lib.ListN.{length};
 use house::Deposited;
 use house::Grouped;
 use house::Opened;
@@ -18,7 +20,9 @@ fn natural(x: i64) -> u64 {
 }
 
 // Makes the call of a row.
-pub fn made(row: [i64; 8], accounts: &mut [i64], counters: &mut [u32], pays: &mut [u64]) {
+pub fn made(row: &[i64], accounts: &mut [i64], counters: &mut [u32], pays: &mut [u64])
+    requires { ⌜ length (now row) ≡ 8 ⌝ }
+{
     let kind = row[0];
     let a = natural(row[1]);
     let b = natural(row[2]);
@@ -39,7 +43,9 @@ pub fn made(row: [i64; 8], accounts: &mut [i64], counters: &mut [u32], pays: &mu
 
 // ---- calls with lists
 
-fn open(row: [i64; 8], count: u64, accounts: &mut [i64], counters: &mut [u32], pays: &mut [u64]) {
+fn open(row: &[i64], count: u64, accounts: &mut [i64], counters: &mut [u32], pays: &mut [u64])
+    requires { ⌜ length (now row) ≡ 8 ⌝ }
+{
     let balances = balances(row);
     let lines = lines(row);
     let n = length(count);
@@ -48,7 +54,9 @@ fn open(row: [i64; 8], count: u64, accounts: &mut [i64], counters: &mut [u32], p
 }
 
 // The five balances of a row, and 0 behind them.
-fn balances(row: [i64; 8]) -> [i64; 65] {
+fn balances(row: &[i64]) -> [i64; 65]
+    requires { ⌜ length (now row) ≡ 8 ⌝ }
+{
     let mut r = [0i64; 65];
     r[0] = row[2];
     r[1] = row[3];
@@ -59,7 +67,9 @@ fn balances(row: [i64; 8]) -> [i64; 65] {
 }
 
 // The line of member 2, and 0 for all others.
-fn lines(row: [i64; 8]) -> [i64; 65] {
+fn lines(row: &[i64]) -> [i64; 65]
+    requires { ⌜ length (now row) ≡ 8 ⌝ }
+{
     let mut r = [0i64; 65];
     r[1] = row[7];
     r
@@ -75,14 +85,18 @@ fn length(n: u64) -> usize
     n as usize
 }
 
-fn group(row: [i64; 8], n: u64, accounts: &mut [i64], counters: &mut [u32], pays: &mut [u64]) {
+fn group(row: &[i64], n: u64, accounts: &mut [i64], counters: &mut [u32], pays: &mut [u64])
+    requires { ⌜ length (now row) ≡ 8 ⌝ }
+{
     let counts = counts(row);
     let k = length(n);
     grouped(house::group(accounts, counters, pays, &counts[..k]));
 }
 
 // The counts of a row, and 0 behind them.
-fn counts(row: [i64; 8]) -> [u16; 65] {
+fn counts(row: &[i64]) -> [u16; 65]
+    requires { ⌜ length (now row) ≡ 8 ⌝ }
+{
     let mut r = [0u16; 65];
     r[0] = small(natural(row[2]));
     r[1] = small(natural(row[3]));

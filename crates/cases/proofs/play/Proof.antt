@@ -1,34 +1,28 @@
--- `cases::play` is safe and ends. The loop's invariant: the lists keep their lengths.
+-- `cases::play` is safe and ends. The loop's invariant: the lists keep their lengths, and no field begins behind the byte that is next.
 use borrow.Author.Needs.{needs}
 use mathlib.Core.Path.{_≡_}
-use Prim.Native.Nat.{_-_}
+use Prim.Native.Nat.{_-_, _≤_}
 use lib.ListN.{length}
 use Rattle.cases.proofs.play.Statement.{statement}
 use Rattle.cases.proofs.play.Tie as tie
 
 abbrev Inv-loop : tie.InvT-loop
-Inv-loop accounts₀ counters₀ pays₀ i₀ t6 accounts counters pays i = (length accounts ≡ length accounts₀) × (length counters ≡ length counters₀) × (length pays ≡ length pays₀)
+Inv-loop input row₀ accounts₀ counters₀ pays₀ n p₀ i₀ row accounts counters pays p i = (length row ≡ 8) × (p .from ≤ i) × (p .k ≤ i) × (length accounts ≡ length accounts₀) × (length counters ≡ length counters₀) × (length pays ≡ length pays₀)
 
 abbrev μ-loop : tie.MeasureT-loop
-μ-loop accounts₀ counters₀ pays₀ i₀ t6 accounts counters pays i = 144 - i
+μ-loop input row₀ accounts₀ counters₀ pays₀ n p₀ i₀ row accounts counters pays p i = n - i
+
+read-requires : tie.Need-read-requires Inv-loop μ-loop
+read-requires c κs = search needs
+
+count-requires : tie.Need-count-requires Inv-loop μ-loop
+count-requires c κs = search needs
 
 loop-holds : tie.Need-loop-holds Inv-loop μ-loop
 loop-holds c = search needs
 
-mul-row : tie.Need-mul-row Inv-loop μ-loop
-mul-row c = search needs
-
-array-copy-out-row : tie.Need-array-copy-out-row Inv-loop μ-loop
-array-copy-out-row c = search needs
-
-made-requires : tie.Need-made-requires Inv-loop μ-loop
-made-requires c κs = search needs
-
-slice-aggregate-write-all : tie.Need-slice-aggregate-write-all Inv-loop μ-loop
-slice-aggregate-write-all c = search needs
-
-write-all-requires : tie.Need-write-all-requires Inv-loop μ-loop
-write-all-requires c κs = search needs
+passed-requires : tie.Need-passed-requires Inv-loop μ-loop
+passed-requires c κs = search needs
 
 add-i : tie.Need-add-i Inv-loop μ-loop
 add-i c = search needs
@@ -48,6 +42,12 @@ same-length-2 c = search needs
 same-length-3 : tie.Need-same-length-3 Inv-loop μ-loop
 same-length-3 c = search needs
 
+same-length-4 : tie.Need-same-length-4 Inv-loop μ-loop
+same-length-4 c = search needs
+
+same-length-5 : tie.Need-same-length-5 Inv-loop μ-loop
+same-length-5 c = search needs
+
 returns : tie.Need-returns Inv-loop μ-loop
 returns c = search needs
 
@@ -57,16 +57,16 @@ play-spec =
     (tie.spec
     Inv-loop
     μ-loop
+    read-requires
+    count-requires
     loop-holds
-    mul-row
-    array-copy-out-row
-    made-requires
-    slice-aggregate-write-all
-    write-all-requires
+    passed-requires
     add-i
     loop-less
     loop-again
     same-length
     same-length-2
     same-length-3
+    same-length-4
+    same-length-5
     returns)
