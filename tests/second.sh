@@ -26,7 +26,7 @@ else
     cat "$log"
 fi
 # The stored output of the program `cases` is what the second program makes of the same table of cases.
-if "$CARGO_TARGET_DIR/release/cases" ../../crates/cases/src/rows.rt | cmp - ../../crates/cases/stdout; then
+if "$CARGO_TARGET_DIR/release/cases" ../../crates/cases/stdin | cmp - ../../crates/cases/stdout; then
     passed=$((passed + 1))
 else
     failed=$((failed + 1))

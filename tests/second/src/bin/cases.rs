@@ -9,23 +9,24 @@ const LEAST: usize = 22_528;
 
 fn main() {
     let path = std::env::args().nth(1).expect("usage: cases ROWS");
-    let rows = numbers(&std::fs::read_to_string(path).expect("the table of cases"));
+    let rows = rows(&std::fs::read_to_string(path).expect("the table of cases"));
     let mut tables = vec![0u8; LEAST];
     let mut out = Vec::new();
-    for row in rows.chunks(8) {
+    for row in &rows {
         told(row, &mut tables, &mut out);
     }
     std::io::stdout().write_all(&out).expect("standard output");
 }
 
-/// The numbers of the table, without its comments.
-fn numbers(text: &str) -> Vec<i64> {
-    let start = text.find("= [").expect("a table") + 3;
-    text[start..]
-        .lines()
-        .map(|line| line.split("//").next().unwrap_or(""))
-        .flat_map(|line| line.split([',', '[', ']']))
-        .filter_map(|word| word.trim().parse().ok())
+/// The rows of the table, without its remarks: eight numbers each, 0 where one is not given.
+fn rows(text: &str) -> Vec<Vec<i64>> {
+    text.lines()
+        .filter(|line| !line.starts_with('#'))
+        .map(|line| {
+            let mut row: Vec<i64> = line.split(' ').map(|word| word.parse().expect("a number")).collect();
+            row.resize(8, 0);
+            row
+        })
         .collect()
 }
 
