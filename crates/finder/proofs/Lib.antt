@@ -1,4 +1,5 @@
 pub mod Tops
+pub mod Links
 pub mod Positions
 pub mod Cover
 pub mod Off

@@ -19,9 +19,10 @@ use Rattle.rule.proofs.Sums.{sum-strict}
 use Rattle.rule.proofs.Kernel.{take-off}
 use Rattle.rule.proofs.Find.{put-all, lower, around-lower}
 use Rattle.finder.specs.Limits.{mostAmount}
-use Rattle.finder.specs.Tops.{countsOf, height}
+use Rattle.finder.specs.Tops.{countsOf, height, Linked}
 use Rattle.finder.specs.Finder.{Ranges, Stood, Ready, Short, Off, TakenOff}
 use Rattle.finder.proofs.Tops.{payee-under, one-less, last-stands}
+use Rattle.finder.proofs.Links.{linked-below}
 use Rattle.finder.proofs.Positions.{moved-at, moved-far}
 use Rattle.finder.proofs.Cover.{cover-lawful, position-off}
 
@@ -46,8 +47,9 @@ module _ {n used : ℕ} {H : House} {pays : List ℕ} {xs lines : List ℤ} {ts 
   some-in t = omega (arith, take-off (cover-lawful n H) (countsOf pays ts) i (st .allowed) (st .around .above (st .some) (st .allowed)) h (short-uncovered t))
 
 -- so a payment of a short member can be taken off
-pub off-ready : {n used : ℕ} {pays : List ℕ} {xs lines : List ℤ} {ts : List ℕ} {i : ℕ} → Ready n used pays xs lines ts → i < n → Short xs lines i ≡ true → Off pays xs ts i
-off-ready {i} r h t =
+pub off-ready : {n used : ℕ} {pays befores : List ℕ} {xs lines : List ℤ} {ts : List ℕ} {i : ℕ}
+    → Ready n used pays xs lines ts → Linked used pays befores → i < n → Short xs lines i ≡ true → Off pays befores xs ts i
+off-ready {i} r k h t =
     let inside : i < 64 = omega (arith, r .members) in
     let top = r .ranges .topped in
     record {
@@ -57,6 +59,7 @@ off-ready {i} r h t =
       places = omega (arith, top .within i inside, top .places);
       some = some-in (r .stood) i h t;
       small = λ k l. r .ranges .small k (omega (arith, top .within i inside));
+      linked = linked-below k (top .within i inside);
     }
 
 -- ---- one payment off
@@ -67,8 +70,8 @@ counts-path e = λ k i. e i k
 counts-off : {pays : List ℕ} {s : ℕ} {xs ys : List ℤ} {ts us : List ℕ} (t : TakenOff pays s xs ys ts us) → s < length ts
     → countsOf pays us ≡ put (countsOf pays ts) s (length (queueOf s (take (t .place) pays)))
 counts-off {pays} {s} {ts} {us} t h = counts-path (λ i. put-all (λ m x. countsOf pays us m ≡ x) (countsOf pays ts) s (length (queueOf s (take (t .place) pays))) i
-    (rw (t .tops, getD-set-same ts s (t .place) 0 h))
-    (λ ne. rw (t .tops, getD-set-other ts s i (t .place) 0 ne)))
+    (rw (t .tops, getD-set-same ts s (t .top) 0 h, t .same))
+    (λ ne. rw (t .tops, getD-set-other ts s i (t .top) 0 ne)))
 
 module _ {used : ℕ} {pays : List ℕ} {xs ys lines : List ℤ} {ts us : List ℕ} {s : ℕ} (r : Ranges used pays xs lines ts) (inside : s < 64) (t : TakenOff pays s xs ys ts us) where
   payment-is : {n : ℕ} {H : House} → Stood n used H pays xs lines ts → s < n → getD (H .queue s) (length (queueOf s (take (t .place) pays))) 0 ≡ getD pays (t .place) 0
@@ -104,15 +107,15 @@ module _ {used : ℕ} {pays : List ℕ} {xs ys lines : List ℤ} {ts us : List �
 
   lowered : (i : ℕ) → getD us i 0 ≤ getD ts i 0
   lowered i = elim (ℕ-discrete i s) [
-    | yes e ↦ rw (e, t .tops, getD-set-same ts s (t .place) 0 (rw (r .topped .each) inside)) (omega (arith, t .last .under))
-    | no e ↦ rw (t .tops, getD-set-other ts s i (t .place) 0 e) (omega arith)
+    | yes e ↦ rw (e, t .tops, getD-set-same ts s (t .top) 0 (rw (r .topped .each) inside)) (omega (arith, t .low, t .last .under))
+    | no e ↦ rw (t .tops, getD-set-other ts s i (t .top) 0 e) (omega arith)
   ]
 
   -- the sum of the tops falls,
   pub height-off : height us < height ts
   unfolding height
   height-off = sum-strict 64 (λ i. getD us i 0) (λ i. getD ts i 0) s (λ i k. lowered i) inside
-      (rw (t .tops, getD-set-same ts s (t .place) 0 (rw (r .topped .each) inside)) (t .last .under))
+      (rw (t .tops, getD-set-same ts s (t .top) 0 (rw (r .topped .each) inside)) (omega (arith, t .low, t .last .under)))
 
   -- and as it falls by one or more, no position can leave its range
   pub ranges-off : Ranges used pays ys lines us

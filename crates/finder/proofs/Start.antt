@@ -3,14 +3,13 @@ use mathlib.Core.Path.{_≡_, refl, _∙_}
 use mathlib.Core.Bool.{Bool, true, false, cond}
 use mathlib.Core.List.{List, [], _∷_}
 use Prim.Native.Nat.{ℕ, zero, suc, _+_, _*_, _≤_, _<_}
-use native.Mathlib.Decide.{ℕ-discrete}
 use native.Mathlib.Omega.{arith}
 use native.Mathlib.Numerals.{add-one}
 use lib.Dec.{eqb}
 use lib.IntN.{ℤ, pos, _+ℤ_, _-ℤ_}
 use lib.Signed.{_≤ℤ_}
-use lib.ListN.{length, getD, set, take, length-set}
-use lib.Seq.{take-suc, take-length, getD-set-same, getD-set-other}
+use lib.ListN.{length, getD, take, length-set}
+use lib.Seq.{take-suc, take-length}
 use Rattle.rule.specs.Kernel.{Counts, none, sum, Under}
 use Rattle.rule.specs.Ints.{up}
 use Rattle.rule.specs.Payment.{payerOf, payeeOf, amountOf, amountTo}
@@ -24,7 +23,7 @@ use Rattle.rule.proofs.Bounds.{total-append}
 use Rattle.rule.proofs.Cover.{none-allowed}
 use Rattle.rule.proofs.Table.{by-payers}
 use Rattle.finder.specs.Limits.{mostPlaces}
-use Rattle.finder.specs.Tops.{countsOf, height, AllIn}
+use Rattle.finder.specs.Tops.{countsOf, height, Topped, AllIn}
 use Rattle.finder.specs.Positions.{moved, Entering, Entered}
 use Rattle.finder.specs.Finder.{Stood, Ready, FoundSet}
 use Rattle.finder.specs.Resolve.{houseOf, Sits, Resolved}
@@ -84,15 +83,9 @@ sum-le : (n : ℕ) (f : Counts) → Under n f (λ i. mostPlaces) → sum n f ≤
 sum-le zero f u = omega arith
 sum-le (suc n) f u = omega (arith, sum-le n f (λ i h. u i (omega arith)), u n (omega arith))
 
-height-le : (used : ℕ) (ts : List ℕ) → used ≤ mostPlaces → AllIn used ts → height ts ≤ 64 * mostPlaces
+height-le : {used : ℕ} {pays ts : List ℕ} → used ≤ mostPlaces → Topped used pays ts → height ts ≤ 64 * mostPlaces
 unfolding height
-height-le used ts f t = sum-le 64 (λ i. getD ts i 0) (λ i h. omega (arith, t .whole i h))
-
-pub all-in-next : (used i : ℕ) (ts : List ℕ) → i < length ts → ((k : ℕ) → k < i → getD ts k 0 ≡ used) → (k : ℕ) → k < i + 1 → getD (set ts i used) k 0 ≡ used
-all-in-next used i ts h f k l = elim (ℕ-discrete k i) [
-  | yes e ↦ rw e (getD-set-same ts i used 0 h)
-  | no e ↦ rw (getD-set-other ts i k used 0 e) (f k (omega arith))
-]
+height-le {ts} f t = sum-le 64 (λ i. getD ts i 0) (λ i h. omega (arith, t .within i h))
 
 -- ---- the start
 
@@ -103,7 +96,7 @@ worth-all f q = rw take-length
 line-is : (z : ℤ) → pos 0 ≤ℤ z → z ≡ pos (up z)
 line-is z h = eq-of z (pos (up z)) (omega (arith, nonneg-is z h))
 
-module _ {n used : ℕ} {pays : List ℕ} {bs xs lines : List ℤ} {os ts : List ℕ} (g : Sits n used pays bs lines os) (d : Entered used pays bs xs) (t : AllIn used ts) where
+module _ {n used : ℕ} {pays : List ℕ} {bs xs lines : List ℤ} {os ts : List ℕ} (g : Sits n used pays bs lines os) (d : Entered used pays bs xs) (t : AllIn used pays ts) where
   full : (i : ℕ) → i < n → countsOf pays ts i ≡ length (queueOf i (take used pays))
   full i h = rw (t .whole i (omega (arith, g .members)))
 
@@ -133,11 +126,11 @@ module _ {n used : ℕ} {pays : List ℕ} {bs xs lines : List ℤ} {os ts : List
   ready-start = record {
     members = g .members;
     ranges = record {
-      topped = record { places = g .entering .places; each = t .each; within = λ i h. omega (arith, t .whole i h) };
+      topped = t .topped;
       each-position = d .each;
       each-line = g .each-line;
       small = g .entering .small;
-      near = λ i h. omega (arith, d .near i h, g .entering .few, height-le used ts (g .entering .few) t);
+      near = λ i h. omega (arith, d .near i h, g .entering .few, height-le (g .entering .few) (t .topped));
     };
     house = houseOf used pays bs lines;
     stood = stood-start;

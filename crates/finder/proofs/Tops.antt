@@ -38,7 +38,7 @@ module _ (pays : List ℕ) (i k : ℕ) (h : k < length pays) where
   pub queue-own : payerOf (getD pays k 0) ≡ i → queueOf i (take (suc k) pays) ≡ queueOf i (take k pays) ++ (getD pays k 0 ∷ [])
   queue-own e = rw (take-suc pays k 0 h, queue-append, eqb-same e)
 
-  queue-other : payerOf (getD pays k 0) ≢ i → queueOf i (take (suc k) pays) ≡ queueOf i (take k pays)
+  pub queue-other : payerOf (getD pays k 0) ≢ i → queueOf i (take (suc k) pays) ≡ queueOf i (take k pays)
   queue-other e = rw (take-suc pays k 0 h, queue-append, eqb-other e) (append-nil (queueOf i (take k pays)))
 
 queue-head : (pays : List ℕ) (i t u : ℕ) → t ≤ u → queueOf i (take u pays) ≡ queueOf i (take t pays) ++ queueOf i (take (u - t) (drop t pays))

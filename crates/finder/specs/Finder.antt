@@ -11,7 +11,7 @@ use Rattle.rule.specs.Payment.{payeeOf, amountOf}
 use Rattle.rule.specs.House.{House, waits, position, Covered, AllowedSet}
 use Rattle.rule.specs.Table.{queueOf}
 use Rattle.finder.specs.Limits.{far, mostAmount, farPosition}
-use Rattle.finder.specs.Tops.{countsOf, height, Topped, LastAt}
+use Rattle.finder.specs.Tops.{countsOf, height, Topped, Linked, LastAt}
 use Rattle.finder.specs.Positions.{moved, Small, Steady}
 
 -- ---- what is asked
@@ -64,20 +64,25 @@ pub record FoundSet (n used : ℕ) (pays : List ℕ) (lines xs ys : List ℤ) (t
 -- ---- one payment off
 
 -- member i has a payment in, and it can be taken off
-pub record Off (pays : List ℕ) (xs : List ℤ) (ts : List ℕ) (i : ℕ) : Type 0 where
+pub record Off (pays befores : List ℕ) (xs : List ℤ) (ts : List ℕ) (i : ℕ) : Type 0 where
   pub member : i < 64
   pub steady : Steady xs
   pub each : length ts ≡ 64
   pub places : getD ts i 0 ≤ length pays
   pub some : 0 < countsOf pays ts i
   pub small : Small (getD ts i 0) pays
+  pub linked : Linked (getD ts i 0) pays befores
 
--- the last payment of member i was taken off: its amount went back from the payee, and the top is where it stood
+-- the last payment of member i was taken off: its amount went back from the payee, and the top is where it stood or below, with no
+-- payment of the member between
 pub record TakenOff (pays : List ℕ) (i : ℕ) (xs ys : List ℤ) (ts us : List ℕ) : Type 0 where
   pub place : ℕ
+  pub top : ℕ
   pub last : LastAt pays (getD ts i 0) i place
+  pub low : top ≤ place
+  pub same : queueOf i (take top pays) ≡ queueOf i (take place pays)
   pub positions : ys ≡ moved xs (payeeOf (getD pays place 0)) i (amountOf (getD pays place 0))
-  pub tops : us ≡ set ts i place
+  pub tops : us ≡ set ts i top
 
 -- member i was not short and nothing changed, or it was and its last payment was taken off
 abbrev pub Stepped : Bool → List ℕ → ℕ → List ℤ → List ℤ → List ℤ → List ℕ → List ℕ → Type 0

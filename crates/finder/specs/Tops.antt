@@ -22,10 +22,22 @@ pub record Topped (used : ℕ) (pays tops : List ℕ) : Type 0 where
   pub each : length tops ≡ 64
   pub within : (i : ℕ) → i < 64 → getD tops i 0 ≤ used
 
--- every payment of every member is in
-pub record AllIn (used : ℕ) (tops : List ℕ) : Type 0 where
+-- no payment of any member is in
+pub record NoneIn (tops : List ℕ) : Type 0 where
   pub each : length tops ≡ 64
-  pub whole : (i : ℕ) → i < 64 → getD tops i 0 ≡ used
+  pub none : (i : ℕ) → i < 64 → getD tops i 0 ≡ 0
+
+-- every payment of every member is in
+pub record AllIn (used : ℕ) (pays tops : List ℕ) : Type 0 where
+  pub topped : Topped used pays tops
+  pub whole : (i : ℕ) → i < 64 → queueOf i (take (getD tops i 0) pays) ≡ queueOf i (take used pays)
+
+-- the list tells of each payment a place at or below its own, and between the two stands no payment of the same payer
+pub record Linked (used : ℕ) (pays befores : List ℕ) : Type 0 where
+  pub each : used ≤ length befores
+  pub back : (m : ℕ) → m < used → getD befores m 0 ≤ m
+  pub same : (m : ℕ) → m < used
+      → queueOf (payerOf (getD pays m 0)) (take (getD befores m 0) pays) ≡ queueOf (payerOf (getD pays m 0)) (take m pays)
 
 -- the last payment of member i below its top stands at this place
 pub record LastAt (pays : List ℕ) (top i place : ℕ) : Type 0 where

@@ -8,7 +8,7 @@ ghost use lib.ListN.{length, getD, take};
 ghost use Rattle.rule.specs.Payment.{payerOf, payeeOf, amountOf};
 ghost use Rattle.rule.specs.Table.{queueOf};
 ghost use Rattle.finder.specs.Limits.{far, mostAmount, mostPlaces, farPosition};
-ghost use Rattle.finder.specs.Tops.{Topped, LastAt, AllIn, CountsBelow};
+ghost use Rattle.finder.specs.Tops.{Topped, NoneIn, AllIn, Linked, LastAt, CountsBelow};
 ghost use Rattle.finder.specs.Positions.{added, moved, Steady, Entering, Entered};
 ghost use Rattle.finder.specs.Finder.{Ready, TakenOff, Off, Stepped, Rounded, FoundSet};
 ghost use Rattle.finder.specs.Resolve.{Sits, Resolved};
@@ -26,9 +26,11 @@ pub fn resolve<'a>(
     requires { ⌜ Sits count used (now pays) (now positions) (now lines) (now tops) ⌝ }
     ensures { λ _. ⌜ Resolved count used (now (pays .entry)) (now (positions .entry)) (now (lines .entry)) (now (positions .exit)) (now (tops .exit)) ⌝ }
 {
+    let mut befores = [0u16; 2048];
     enter_all(pays, used, positions);
-    all_in(tops, used);
-    find(pays, used, positions, lines, tops, count);
+    none_in(tops);
+    link_all(pays, used, tops, &mut befores);
+    find(pays, used, positions, lines, tops, &befores, count);
 }
 
 // Takes payments off, from any tops around the largest set, until no member is short.
@@ -38,14 +40,16 @@ pub fn find<'a>(
     positions: &mut [i64],
     lines: &'a [i64],
     tops: &mut [usize],
+    befores: &'a [u16],
     count: usize,
 )
     requires { ⌜ Ready count used (now pays) (now positions) (now lines) (now tops) ⌝ }
+    requires { ⌜ Linked used (now pays) (now befores) ⌝ }
     ensures { λ _. ⌜ FoundSet count used (now (pays .entry)) (now (lines .entry)) (now (positions .entry)) (now (positions .exit)) (now (tops .entry)) (now (tops .exit)) ⌝ }
 {
     let mut again = true;
     while again {
-        again = round(pays, used, positions, lines, tops, count);
+        again = round(pays, used, positions, lines, tops, befores, count);
     }
 }
 
@@ -75,15 +79,17 @@ fn round<'a>(
     positions: &mut [i64],
     lines: &'a [i64],
     tops: &mut [usize],
+    befores: &'a [u16],
     count: usize,
 ) -> bool
     requires { ⌜ Ready count used (now pays) (now positions) (now lines) (now tops) ⌝ }
+    requires { ⌜ Linked used (now pays) (now befores) ⌝ }
     ensures { λ r. ⌜ Rounded r count used count (now (pays .entry)) (now (lines .entry)) (now (positions .entry)) (now (positions .exit)) (now (tops .entry)) (now (tops .exit)) ⌝ }
 {
     let mut any = false;
     let mut member = 0;
     while member < count {
-        if step(pays, used, positions, lines, tops, count, member) {
+        if step(pays, used, positions, lines, tops, befores, count, member) {
             any = true;
         }
         member += 1;
@@ -98,17 +104,19 @@ fn step<'a>(
     positions: &mut [i64],
     lines: &'a [i64],
     tops: &mut [usize],
+    befores: &'a [u16],
     count: usize,
     member: usize,
 ) -> bool
     requires { ⌜ Ready count used (now pays) (now positions) (now lines) (now tops) ⌝ }
+    requires { ⌜ Linked used (now pays) (now befores) ⌝ }
     requires { ⌜ member < count ⌝ }
     ensures { λ r. ⌜ Stepped r (now (pays .entry)) member (now (lines .entry)) (now (positions .entry)) (now (positions .exit)) (now (tops .entry)) (now (tops .exit)) ⌝ }
 {
     let position = positions[member];
     let line = lines[member];
     if is_short(position, line) {
-        take_off(pays, positions, tops, member);
+        take_off(pays, positions, tops, befores, member);
         return true;
     }
     false
@@ -122,9 +130,15 @@ pub fn is_short(position: i64, line: i64) -> bool
     position < -line
 }
 
-// Takes the member's last payment below its top off: the payer has the amount back, and the top is where the payment stood.
-fn take_off(pays: &[u64], positions: &mut [i64], tops: &mut [usize], member: usize)
-    requires { ⌜ Off (now pays) (now positions) (now tops) member ⌝ }
+// Takes the member's last payment below its top off: the payer has the amount back, and the top is just behind the payment before.
+fn take_off<'a>(
+    pays: &'a [u64],
+    positions: &mut [i64],
+    tops: &mut [usize],
+    befores: &'a [u16],
+    member: usize,
+)
+    requires { ⌜ Off (now pays) (now befores) (now positions) (now tops) member ⌝ }
     ensures { λ _. ⌜ TakenOff (now (pays .entry)) member (now (positions .entry)) (now (positions .exit)) (now (tops .entry)) (now (tops .exit)) ⌝ }
 {
     let top = tops[member];
@@ -133,7 +147,8 @@ fn take_off(pays: &[u64], positions: &mut [i64], tops: &mut [usize], member: usi
     let payee = rule::payee_of(w);
     let amount = rule::amount_of(w);
     transfer(positions, payee, member, amount);
-    tops[member] = place;
+    let before = befores[place] as usize;
+    tops[member] = before;
 }
 
 // The place of the member's last payment below its top. It has one.
@@ -199,14 +214,32 @@ fn add(positions: &mut [i64], member: usize, by: i64)
     positions[member] = positions[member] + by;
 }
 
-// Every payment of every member is in.
-fn all_in(tops: &mut [usize], used: usize)
+// No payment of any member is in.
+fn none_in(tops: &mut [usize])
     requires { ⌜ length (now tops) ≡ 64 ⌝ }
-    ensures { λ _. ⌜ AllIn used (now (tops .exit)) ⌝ }
+    ensures { λ _. ⌜ NoneIn (now (tops .exit)) ⌝ }
 {
     let mut i = 0;
     while i < 64 {
-        tops[i] = used;
+        tops[i] = 0;
         i += 1;
+    }
+}
+
+// Takes every payment in: each top comes to stand just behind the member's last payment, and each payment is told where its payer's top
+// was before.
+fn link_all(pays: &[u64], used: usize, tops: &mut [usize], befores: &mut [u16])
+    requires { ⌜ NoneIn (now tops) ⌝ }
+    requires { ⌜ (used ≤ length (now pays)) × (used ≤ length (now befores)) × (used ≤ mostPlaces) ⌝ }
+    ensures { λ _. ⌜ AllIn used (now (pays .entry)) (now (tops .exit)) ⌝ }
+    ensures { λ _. ⌜ Linked used (now (pays .entry)) (now (befores .exit)) ⌝ }
+{
+    let mut m = 0;
+    while m < used {
+        let w = pays[m];
+        let payer = rule::payer_of(w);
+        befores[m] = tops[payer] as u16;
+        tops[payer] = m + 1;
+        m += 1;
     }
 }

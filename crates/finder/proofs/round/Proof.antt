@@ -11,30 +11,31 @@ use Rattle.finder.proofs.round.Statement.{statement}
 use Rattle.finder.proofs.round.Tie as tie
 
 abbrev Inv-loop : tie.InvT-loop
-Inv-loop pays used positions₀ lines tops₀ count any₀ member₀ positions tops any member = (length positions ≡ length positions₀) × (length tops ≡ length tops₀) × (member ≤ count) × Rounded any count used member pays lines positions₀ positions tops₀ tops
+Inv-loop pays used positions₀ lines tops₀ befores count any₀ member₀ positions tops any member = (length positions ≡ length positions₀) × (length tops ≡ length tops₀) × (member ≤ count) × Rounded any count used member pays lines positions₀ positions tops₀ tops
 
 abbrev μ-loop : tie.MeasureT-loop
-μ-loop pays used positions₀ lines tops₀ count any₀ member₀ positions tops any member = count - member
+μ-loop pays used positions₀ lines tops₀ befores count any₀ member₀ positions tops any member = count - member
 
-turn : (c : tie.Joined1 Inv-loop μ-loop) → let a = c .before .before .before .before .before .before .before .before .before .before .before .args in
+turn : (c : tie.Joined1 Inv-loop μ-loop) → let a = c .before .before .before .before .before .before .before .before .before .before .before .before .args in
     Rounded (c .if1 .any) (a .count) (a .used) (c .before .before .before .before .before .before .before .before .loop .member + 1) (a .pays .now) (a .lines .now)
     (a .positions .now) (c .before .before .before .before .step .last .1 .1 .0) (a .tops .now) (c .before .before .before .before .step .last .1 .1 .1 .1 .0)
 turn c =
-    let s = c .before .before .before .before .before .before .before .before .before .before .before in
+    let s = c .before .before .before .before .before .before .before .before .before .before .before .before in
     let g = c .before .before .before .before .before .before .before .before .loop .inv .3 in
     let d = c .before .before .before .before .step in
     ⊎-elim
-    (λ w. round-off (s .pre .members) g (omega arith) (w .0 .taken) (w .1) (d .ensures))
-    (λ w. round-past (s .pre .members) g (omega arith) (w .0 .left) (w .1) (d .ensures))
+    (λ w. round-off (s .pre .0 .members) g (omega arith) (w .0 .taken) (w .1) (d .ensures))
+    (λ w. round-past (s .pre .0 .members) g (omega arith) (w .0 .left) (w .1) (d .ensures))
     (c .if1 .came)
 
 loop-holds : tie.Need-loop-holds Inv-loop μ-loop
-loop-holds c = (refl, refl, omega arith, round-start (c .before .before .pre))
+loop-holds c = (refl, refl, omega arith, round-start (c .before .before .before .pre .0))
 
 step-requires : tie.Need-step-requires Inv-loop μ-loop
 step-requires c κs =
     let g = c .before .before .before .loop .inv .3 in
-    (ready-on (c .before .before .before .before .before .before .pre) (g .ranges) (g .keeps), omega arith)
+    let p = c .before .before .before .before .before .before .before .pre in
+    (ready-on (p .0) (g .ranges) (g .keeps), (p .1, omega arith))
 
 add-member : tie.Need-add-member Inv-loop μ-loop
 add-member c = search needs
@@ -44,9 +45,9 @@ loop-less c = search needs
 
 loop-again : tie.Need-loop-again Inv-loop μ-loop
 loop-again c =
-    let s = c .before .before .before .before .before .before .before .before .before .before .before in
+    let s = c .before .before .before .before .before .before .before .before .before .before .before .before in
     let g = turn c in
-    (g .ranges .each-position ∙ sym (s .pre .ranges .each-position), g .ranges .topped .each ∙ sym (s .pre .ranges .topped .each), omega arith, g)
+    (g .ranges .each-position ∙ sym (s .pre .0 .ranges .each-position), g .ranges .topped .each ∙ sym (s .pre .0 .ranges .topped .each), omega arith, g)
 
 same-length : tie.Need-same-length Inv-loop μ-loop
 same-length c = search needs
@@ -56,7 +57,7 @@ same-length-2 c = search needs
 
 returns : tie.Need-returns Inv-loop μ-loop
 returns c =
-    let e : c .before .loop .member ≡ c .before .before .before .before .args .count = omega (arith, c .before .loop .inv .2) in
+    let e : c .before .loop .member ≡ c .before .before .before .before .before .args .count = omega (arith, c .before .loop .inv .2) in
     rw e at (c .before .loop .inv .3)
 
 pub round-spec : {M : Type 1} → statement M

@@ -10,9 +10,9 @@ use borrow.Author.Needs.{needs}
 use Rattle.finder.proofs.step.Statement.{statement}
 use Rattle.finder.proofs.step.Tie as tie
 
-told : (d : tie.After-is-short) → let a = d .before .before .before .before .before .args in Short (a .positions .now) (a .lines .now) (a .member) ≡ d .is-short .result
+told : (d : tie.After-is-short) → let a = d .before .before .before .before .before .before .args in Short (a .positions .now) (a .lines .now) (a .member) ≡ d .is-short .result
 told d =
-    let s = d .before .before .before .before .before in
+    let s = d .before .before .before .before .before .before in
     let f = held (getD (s .args .positions .now) (s .args .member) (pos 0)) (d .before .before .position .given) in
     let g = held (getD (s .args .lines .now) (s .args .member) (pos 0)) (d .before .line .given) in
     sym (simp (plain, f, g) at (d .is-short .ensures))
@@ -31,14 +31,14 @@ shared-slice-copy-out-line c = search needs
 
 is-short-requires : tie.Need-is-short-requires
 is-short-requires c κs =
-    let s = c .before .before .before .before in
+    let s = c .before .before .before .before .before in
     let f = held (getD (s .args .lines .now) (s .args .member) (pos 0)) (c .line .given) in
-    simp (plain, f) (rw (s .pre .0 .stood .line (s .args .member) (s .pre .1)) (nonneg-of (pos _) (omega arith)))
+    simp (plain, f) (rw (s .pre .0 .stood .line (s .args .member) (s .pre .1 .1)) (nonneg-of (pos _) (omega arith)))
 
 take-off-requires : tie.Need-take-off-requires
 take-off-requires c κs =
-    let s = c .before .before .before .before .before .before .before .before in
-    off-ready (s .pre .0) (s .pre .1) (told (c .before .before .before) ∙ c .before .before .if1 .taken)
+    let s = c .before .before .before .before .before .before .before .before .before in
+    off-ready (s .pre .0) (s .pre .1 .0) (s .pre .1 .1) (told (c .before .before .before) ∙ c .before .before .if1 .taken)
 
 same-length : tie.Need-same-length
 same-length c = search needs

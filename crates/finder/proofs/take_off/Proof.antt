@@ -30,11 +30,20 @@ amount-of-requires c κs = search needs
 
 transfer-requires : tie.Need-transfer-requires
 transfer-requires c κs =
-    let s = c .before .before .before .before .before .before .before .before in
+    let s = c .before .before .before .before .before .before .before .before .before in
     let l = c .before .before .before .before .last-of in
     let payer = s .pre .member in
     let payee = payee-under (getD (s .args .pays .now) (l .result) 0) in
     (s .pre .steady, (omega arith, omega arith, omega (arith, s .pre .small (l .result) (l .ensures .under))))
+
+mul-before : tie.Need-mul-before
+mul-before c = search needs
+
+shared-slice-read-before : tie.Need-shared-slice-read-before
+shared-slice-read-before c = omega (arith, c .before .before .before .before .before .before .before .last-of .ensures .under, c .before .before .before .before .before .before .before .before .before .before .before .before .pre .linked .each)
+
+cast-before : tie.Need-cast-before
+cast-before c = omega (arith, c .shared-slice-known4 .given (c .before .before .before .before .before .before .before .last-of .result))
 
 mul-tops : tie.Need-mul-tops
 mul-tops c = search needs
@@ -50,11 +59,15 @@ same-length-2 c = search needs
 
 returns : tie.Need-returns
 returns c =
-    let l = c .before .before .before .before .before .before .last-of in
+    let l = c .before .before .before .before .before .before .before .last-of in
+    let k = c .before .before .before .before .before .before .before .before .before .before .before .before .pre .linked in
     record {
       place = l .result;
+      top = getD (c .before .before .before .before .before .before .before .before .before .before .before .before .args .befores .now) (l .result) 0;
       last = l .ensures;
-      positions = c .before .transfer .ensures ∙ rw (c .before .before .before .before .payee-of .ensures, c .before .before .before .amount-of .ensures);
+      low = k .back (l .result) (l .ensures .under);
+      same = rw (l .ensures .payer) at (k .same (l .result) (l .ensures .under));
+      positions = c .before .before .transfer .ensures ∙ rw (c .before .before .before .before .before .payee-of .ensures, c .before .before .before .before .amount-of .ensures);
       tops = refl;
     }
 
@@ -70,6 +83,9 @@ take-off-spec =
     payee-of-requires
     amount-of-requires
     transfer-requires
+    mul-before
+    shared-slice-read-before
+    cast-before
     mul-tops
     slice-write-tops
     same-length

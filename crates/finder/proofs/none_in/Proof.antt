@@ -1,22 +1,22 @@
--- `finder::all_in` meets its contract. The loop's invariant: the tops of the first `i` members are set. The measure is how many are left.
+-- `finder::none_in` meets its contract. The loop's invariant: the tops of the first `i` members are 0. The measure is how many are left.
 use mathlib.Core.Path.{_≡_, refl, _∙_}
 use Prim.Native.Nat.{ℕ, _-_, _≤_, _<_}
 use native.Mathlib.Omega.{arith}
 use lib.ListN.{length, getD, length-set}
 use borrow.Author.Count.{below-none}
-use Rattle.finder.proofs.Start.{all-in-next}
+use Rattle.finder.proofs.Links.{none-next}
 use borrow.Author.Needs.{needs}
-use Rattle.finder.proofs.all_in.Statement.{statement}
-use Rattle.finder.proofs.all_in.Tie as tie
+use Rattle.finder.proofs.none_in.Statement.{statement}
+use Rattle.finder.proofs.none_in.Tie as tie
 
 abbrev Inv-loop : tie.InvT-loop
-Inv-loop tops₀ used i₀ tops i = (length tops ≡ length tops₀) × (i ≤ 64) × ((k : ℕ) → k < i → getD tops k 0 ≡ used)
+Inv-loop tops₀ i₀ tops i = (length tops ≡ length tops₀) × (i ≤ 64) × ((k : ℕ) → k < i → getD tops k 0 ≡ 0)
 
 abbrev μ-loop : tie.MeasureT-loop
-μ-loop tops₀ used i₀ tops i = 64 - i
+μ-loop tops₀ i₀ tops i = 64 - i
 
 loop-holds : tie.Need-loop-holds Inv-loop μ-loop
-loop-holds c = (refl, omega arith, below-none (λ (k : ℕ). getD (c .args .tops .now) k 0 ≡ c .args .used))
+loop-holds c = (refl, omega arith, below-none (λ (k : ℕ). getD (c .args .tops .now) k 0 ≡ 0))
 
 mul-tops : tie.Need-mul-tops Inv-loop μ-loop
 mul-tops c = search needs
@@ -33,16 +33,16 @@ loop-less c = search needs
 loop-again : tie.Need-loop-again Inv-loop μ-loop
 loop-again c =
     let l = c .before .loop in
-    (simp length-set (l .inv .0), omega arith, all-in-next (c .before .before .args .used) (l .i) (l .tops) (omega (arith, l .inv .0)) (l .inv .2))
+    (simp length-set (l .inv .0), omega arith, none-next (l .i) (l .tops) (omega (arith, l .inv .0)) (l .inv .2))
 
 same-length : tie.Need-same-length Inv-loop μ-loop
 same-length c = search needs
 
 returns : tie.Need-returns Inv-loop μ-loop
-returns c = record { each = c .before .loop .inv .0 ∙ c .before .before .pre; whole = λ k h. c .before .loop .inv .2 k (omega arith) }
+returns c = record { each = c .before .loop .inv .0 ∙ c .before .before .pre; none = λ k h. c .before .loop .inv .2 k (omega arith) }
 
-pub all-in-spec : {M : Type 1} → statement M
-all-in-spec =
+pub none-in-spec : {M : Type 1} → statement M
+none-in-spec =
     tie.close
     (tie.spec
     Inv-loop
