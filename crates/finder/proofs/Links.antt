@@ -1,5 +1,5 @@
 -- With the payments linked place by place, every payment of the places passed is in, and each tells where its payer's payment before it is.
-use mathlib.Core.Path.{_≡_, refl, sym}
+use mathlib.Core.Path.{_≡_, sym}
 use mathlib.Core.List.{List}
 use Prim.Native.Nat.{ℕ, _+_, _≤_, _<_}
 use native.Mathlib.Decide.{ℕ-discrete}

@@ -1,5 +1,6 @@
 // The finder of the largest allowed set. Everything is in at first; round by round the last payment of each short member is taken
-// off, until none is short. Which payments are in is told by the tops: those of a member that stand below its top.
+// off, until none is short. Which payments are in is told by the tops: those of a member that stand below its top. The befores lead from
+// each payment to just behind the same payer's payment before it.
 ghost use mathlib.Core.Path.{_≡_};
 ghost use Prim.Native.Nat.{_+_, _<_, _≤_};
 ghost use lib.IntN.{pos, _-ℤ_};
@@ -226,8 +227,8 @@ fn none_in(tops: &mut [usize])
     }
 }
 
-// Takes every payment in: each top comes to stand just behind the member's last payment, and each payment is told where its payer's top
-// was before.
+// Takes every payment in, one after the other: its payer's top comes to stand just behind it, and where that top was is kept in the
+// befores.
 fn link_all(pays: &[u64], used: usize, tops: &mut [usize], befores: &mut [u16])
     requires { ⌜ NoneIn (now tops) ⌝ }
     requires { ⌜ (used ≤ length (now pays)) × (used ≤ length (now befores)) × (used ≤ mostPlaces) ⌝ }
