@@ -3,7 +3,7 @@
  *   - a refusal left every byte that was lent, and nothing past the lengths that were lent was touched,
  *   - the sum of balances is as before plus an accepted deposit,
  *   - no member stands below minus its line after an accepted call.
- * Which call gave which code is a branch of its own here, and so guides the fuzzer. */
+ * Which call gave which code is counted in a table of its own, which guides the fuzzer. */
 #include <stdint.h>
 #include <stdio.h>
 #include <stdlib.h>
@@ -16,7 +16,8 @@ static uint8_t tables[TABLES + PAST], answer[ANSWER + PAST], list[LIST + PAST], 
 static uint8_t tables_before[sizeof tables], answer_before[sizeof answer], list_before[sizeof list];
 static const uint8_t *input;
 static size_t left;
-static volatile unsigned seen; /* the last call and code, so that no branch is left out */
+__attribute__((section("__libfuzzer_extra_counters"))) static uint8_t answered[6 * 16]; /* which call gave which code */
+static unsigned long seen[6 * 16];                                                         /* the same over all runs, told in the end */
 
 static void wrong(const char *what, uint32_t code) {
     fprintf(stderr, "fuzz: %s (code %u)\n", what, (unsigned)code);
@@ -32,7 +33,7 @@ static uint8_t byte(void) {
 
 /* A number: mostly small, at times at a limit, at times any. */
 static uint64_t number(void) {
-    static const uint64_t limits[] = {0, 64, 65, 2048, 4294967296u, 10000000000000u, 10000000000001u, 1000000000000000u, UINT64_MAX};
+    static const uint64_t limits[] = {0, 64, 65, 4294967295u, 4294967296u, 1000000000000u, 1000000000001u, 1000000000000000u, UINT64_MAX};
     uint8_t kind = byte();
     uint64_t any = 0;
     if (kind < 200) return kind % 10;
@@ -66,11 +67,8 @@ static size_t entries(uint8_t *to, size_t count, size_t wide) {
 /* After a call: what holds for every call, with what an accepted one adds to the sum of balances. */
 static void look(unsigned call, uint32_t code, const char *codes, uint64_t added, int is_open) {
     if (code > 11 || !strchr(codes, 'a' + (int)code)) wrong("a code that the call does not have", code);
-    switch (call * 16 + code) {
-#define C(n) case n: seen = n + 1; break;
-#define R(n) C(n) C(n + 1) C(n + 2) C(n + 3) C(n + 4) C(n + 5) C(n + 6) C(n + 7) C(n + 8) C(n + 9) C(n + 10) C(n + 11)
-        R(0) R(16) R(32) R(48) R(64) R(80)
-    }
+    answered[call * 16 + code]++;
+    seen[call * 16 + code]++;
     if (memcmp(tables + TABLES, tables_before + TABLES, PAST) || memcmp(answer + ANSWER, answer_before + ANSWER, PAST)
         || memcmp(list + LIST, list_before + LIST, PAST))
         wrong("a byte past the end was touched", code);
@@ -84,35 +82,70 @@ static void look(unsigned call, uint32_t code, const char *codes, uint64_t added
         if (account(tables, i) + account(tables, 64 + i) < 0) wrong("a member is below minus its line", code);
 }
 
+/* What the tables were before a call. */
+static void keep(void) {
+    memcpy(tables_before, tables, sizeof tables);
+    memcpy(answer_before, answer, sizeof answer);
+    memcpy(list_before, list, sizeof list);
+}
+
+/* The number that a member gives next. */
+static uint64_t next(uint64_t payer) {
+    uint64_t last = 0;
+    if (payer < 1 || payer > 64) return 1;
+    for (int i = 3; i >= 0; i--) last = last << 8 | tables[MEMBERS + 4 * (63 + payer) + (unsigned)i];
+    return last + 1;
+}
+
+/* Payments of a member, so many, or until one is refused. */
+static void fill(uint64_t payer, uint64_t payee, uint64_t amount, unsigned count) {
+    uint32_t code = 0;
+    while (code == 0 && count-- > 0) {
+        keep();
+        code = snarevapor_submit(tables, TABLES, payer, next(payer), payee, amount);
+        look(2, code, "abcdefg", 0, 0);
+    }
+}
+
+/* A house of small balances and lines, which is mostly in order. */
+static void begin(uint64_t count, size_t lent) {
+    size_t listed = count > 64 ? 64 : count, length = entries(list, listed, 8), second = entries(more, listed, 8);
+    keep();
+    look(0, snarevapor_open(tables, lent, count, list, length, more, second, answer, ANSWER), "abl", 0, 1);
+}
+
+static void tell(void) {
+    static const char *const calls[] = {"open", "deposit", "submit", "release", "group", "resolve"};
+    for (int i = 0; i < 6 * 16; i++)
+        if (seen[i]) fprintf(stderr, "answered: %s %d, %lu times\n", calls[i / 16], i % 16, seen[i]);
+}
+
+int LLVMFuzzerInitialize(int *count, char ***words) {
+    (void)count, (void)words;
+    return atexit(tell);
+}
+
 int LLVMFuzzerTestOneInput(const uint8_t *data, size_t size) {
     input = data;
     left = size;
     memset(tables, 0, sizeof tables);
+    begin(1 + byte() % 64, TABLES);
     for (int calls = 0; left > 0 && calls < 200; calls++) {
-        uint8_t call = byte() % 8;
+        uint8_t call = byte() % 10, odd = byte();
         uint64_t a = number(), b = number(), c = number(), d = number();
-        size_t lent = byte() < 250 ? TABLES : TABLES - 1, told = byte() < 250 ? ANSWER : byte() % ANSWER;
-        size_t length = 0, second = 0;
-        if (call == 0) {
-            length = entries(list, a > 64 ? 64 : a, 8);
-            second = entries(more, a > 64 ? 64 : a, 8);
-        }
-        if (call == 4 || call == 5) {
-            uint8_t count = byte();
-            length = entries(list, count < 240 ? tables[MEMBERS] : count - 190, 2);
-        }
-        memcpy(tables_before, tables, sizeof tables);
-        memcpy(answer_before, answer, sizeof answer);
-        memcpy(list_before, list, sizeof list);
+        size_t lent = odd == 255 ? TABLES - 1 : TABLES, told = odd == 254 ? byte() % ANSWER : ANSWER, length = 0;
+        if (call == 4 || call == 5) length = entries(list, odd == 253 ? byte() % 65 : tables[MEMBERS], 2);
+        keep();
         switch (call) {
-        case 0: look(0, snarevapor_open(tables, lent, a, list, length, more, second, answer, told), "abl", 0, 1); break;
+        case 0: if (odd >= 240) begin(a, lent); break;
         case 1: look(1, snarevapor_deposit(tables, lent, a, b, answer, told), "abceh", b, 0); break;
         case 2: look(2, snarevapor_submit(tables, lent, a, b, c, d), "abcdefg", 0, 0); break;
         case 3: look(3, snarevapor_release(tables, lent, a, answer, told), "abcij", 0, 0); break;
         case 4: look(4, snarevapor_group(tables, lent, list, length, answer, told), "abjk", 0, 0); break;
         case 5: look(5, snarevapor_resolve(tables, lent, list, length, answer, told), "abk", 0, 0); break;
-        case 6: tables[(a << 8 ^ b) % TABLES] ^= (uint8_t)(1u << c % 8); break;
-        default: break;
+        case 6: if (odd >= 240) tables[(a << 8 ^ b) % TABLES] ^= (uint8_t)(1u << c % 8); break;
+        case 7: fill(a, c, d, odd == 252 ? 2049 : odd % 64); break;
+        default: fill(a, c, d, 1);
         }
     }
     return 0;
