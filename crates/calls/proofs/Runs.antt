@@ -6,24 +6,24 @@ use Prim.Native.Nat.{ℕ}
 use lib.IntN.{ℤ}
 use Rattle.words.specs.Row.{putRow, plain}
 use Rattle.house.specs.Promises.{OpenPromise, DepositPromise, SubmitPromise, ReleasePromise, GroupPromise, ResolvePromise}
-use Rattle.house.specs.Open.{isOpened}
-use Rattle.house.specs.Deposit.{isDeposited}
-use Rattle.house.specs.Submit.{isSubmitted}
-use Rattle.house.specs.Release.{isReleased}
-use Rattle.house.specs.Group.{isGrouped}
-use Rattle.house.specs.Resolve.{isResolved}
-use Rattle.house.specs.declared.Deposited.{Deposited}
-use Rattle.house.specs.declared.Deposited.the-variants.{Done, Refused}
-use Rattle.house.specs.declared.Submitted.{Submitted}
-use Rattle.house.specs.declared.Submitted.the-variants.{Done as Taken, Refused as Declined}
-use Rattle.house.specs.declared.Opened.{Opened}
-use Rattle.house.specs.declared.Opened.the-variants.{Done as Opens, Refused as Shut}
-use Rattle.house.specs.declared.Released.{Released}
-use Rattle.house.specs.declared.Released.the-variants.{Done as Left, Refused as Stays}
-use Rattle.house.specs.declared.Grouped.{Grouped}
-use Rattle.house.specs.declared.Grouped.the-variants.{Done as Booked, Refused as Waits}
-use Rattle.house.specs.declared.Resolved.{Resolved}
-use Rattle.house.specs.declared.Resolved.the-variants.{Done as Settled, Refused as Unsettled}
+use Rattle.opening.specs.Open.{isOpened}
+use Rattle.entry.specs.Deposit.{isDeposited}
+use Rattle.entry.specs.Submit.{isSubmitted}
+use Rattle.settling.specs.Release.{isReleased}
+use Rattle.settling.specs.Group.{isGrouped}
+use Rattle.resolving.specs.Resolve.{isResolved}
+use Rattle.answers.specs.declared.Deposited.{Deposited}
+use Rattle.answers.specs.declared.Deposited.the-variants.{Done, Refused}
+use Rattle.answers.specs.declared.Submitted.{Submitted}
+use Rattle.answers.specs.declared.Submitted.the-variants.{Done as Taken, Refused as Declined}
+use Rattle.answers.specs.declared.Opened.{Opened}
+use Rattle.answers.specs.declared.Opened.the-variants.{Done as Opens, Refused as Shut}
+use Rattle.answers.specs.declared.Released.{Released}
+use Rattle.answers.specs.declared.Released.the-variants.{Done as Left, Refused as Stays}
+use Rattle.answers.specs.declared.Grouped.{Grouped}
+use Rattle.answers.specs.declared.Grouped.the-variants.{Done as Booked, Refused as Waits}
+use Rattle.answers.specs.declared.Resolved.{Resolved}
+use Rattle.answers.specs.declared.Resolved.the-variants.{Done as Settled, Refused as Unsettled}
 use Rattle.lists.specs.Bytes.{accountsIn, countersIn, paysIn, withLists}
 use Rattle.calls.specs.Open.{openIn, openTold}
 use Rattle.calls.specs.Deposit.{depositIn, depositTold}

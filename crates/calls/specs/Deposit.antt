@@ -4,10 +4,10 @@ use mathlib.Core.List.{List, [], _∷_}
 use Prim.Native.Nat.{ℕ}
 use mir.Syntax.{w64}
 use mir.Val.{ofZ}
-use Rattle.house.specs.Deposit.{deposited, accountsDeposited}
-use Rattle.house.specs.declared.Refusal.the-variants.{State}
-use Rattle.house.specs.declared.Deposited.{Deposited}
-use Rattle.house.specs.declared.Deposited.the-variants.{Done, Refused}
+use Rattle.entry.specs.Deposit.{deposited, accountsDeposited}
+use Rattle.answers.specs.declared.Refusal.the-variants.{State}
+use Rattle.answers.specs.declared.Deposited.{Deposited}
+use Rattle.answers.specs.declared.Deposited.the-variants.{Done, Refused}
 use Rattle.lists.specs.Bytes.{accountsIn, countersIn, paysIn, withLists, lent}
 use Rattle.calls.specs.Reply.{Reply, accepted, refused}
 

@@ -3,10 +3,10 @@ use mathlib.Core.Bool.{cond}
 use mathlib.Core.List.{List, [], _∷_}
 use Prim.Native.Nat.{ℕ}
 use Rattle.booking.specs.Booking.{listed, accountsBooked, countersBooked, paysBooked}
-use Rattle.house.specs.Group.{grouped}
-use Rattle.house.specs.declared.Refusal.the-variants.{State}
-use Rattle.house.specs.declared.Grouped.{Grouped}
-use Rattle.house.specs.declared.Grouped.the-variants.{Done, Refused}
+use Rattle.settling.specs.Group.{grouped}
+use Rattle.answers.specs.declared.Refusal.the-variants.{State}
+use Rattle.answers.specs.declared.Grouped.{Grouped}
+use Rattle.answers.specs.declared.Grouped.the-variants.{Done, Refused}
 use Rattle.lists.specs.Bytes.{accountsIn, countersIn, paysIn, withLists, lent, countsIn}
 use Rattle.calls.specs.Reply.{Reply, accepted, refused}
 

@@ -5,10 +5,10 @@ use Prim.Native.Nat.{ℕ}
 use lib.IntN.{ℤ}
 use mir.Syntax.{w64}
 use mir.Val.{ofZ}
-use Rattle.house.specs.Open.{opened, accountsOpened, countersOpened, paysOpened}
-use Rattle.house.specs.declared.Refusal.the-variants.{State}
-use Rattle.house.specs.declared.Opened.{Opened}
-use Rattle.house.specs.declared.Opened.the-variants.{Done, Refused}
+use Rattle.opening.specs.Open.{opened, accountsOpened, countersOpened, paysOpened}
+use Rattle.answers.specs.declared.Refusal.the-variants.{State}
+use Rattle.answers.specs.declared.Opened.{Opened}
+use Rattle.answers.specs.declared.Opened.the-variants.{Done, Refused}
 use Rattle.lists.specs.Bytes.{accountsIn, countersIn, paysIn, withLists, lent, signedIn}
 use Rattle.calls.specs.Reply.{Reply, accepted, refused}
 

@@ -3,10 +3,10 @@ use mathlib.Core.Bool.{cond}
 use mathlib.Core.List.{List, [], _∷_}
 use Prim.Native.Nat.{ℕ}
 use Rattle.booking.specs.Booking.{accountsBooked, countersBooked, paysBooked}
-use Rattle.house.specs.Release.{released, onlyHead}
-use Rattle.house.specs.declared.Refusal.the-variants.{State}
-use Rattle.house.specs.declared.Released.{Released}
-use Rattle.house.specs.declared.Released.the-variants.{Done, Refused}
+use Rattle.settling.specs.Release.{released, onlyHead}
+use Rattle.answers.specs.declared.Refusal.the-variants.{State}
+use Rattle.answers.specs.declared.Released.{Released}
+use Rattle.answers.specs.declared.Released.the-variants.{Done, Refused}
 use Rattle.lists.specs.Bytes.{accountsIn, countersIn, paysIn, withLists, lent}
 use Rattle.calls.specs.Reply.{Reply, accepted, refused}
 

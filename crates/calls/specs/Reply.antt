@@ -3,8 +3,8 @@ use mathlib.Core.Path.{_≡_}
 use mathlib.Core.List.{List, []}
 use Prim.Native.Nat.{ℕ}
 use Rattle.words.specs.Row.{putRow, plain}
-use Rattle.house.specs.Codes.{codeOf}
-use Rattle.house.specs.declared.Refusal.{Refusal}
+use Rattle.answers.specs.Codes.{codeOf}
+use Rattle.answers.specs.declared.Refusal.{Refusal}
 
 pub record Reply : Type 0 where
   pub code : ℕ

@@ -8,11 +8,11 @@ use lib.IntN.{ℤ}
 use Rattle.words.specs.Row.{putRow, plain}
 use Rattle.sets.specs.Sets.{lowestIn}
 use Rattle.house.specs.Promises.{ResolvePromise}
-use Rattle.house.specs.Resolve.{numberOf}
-use Rattle.house.specs.declared.Refusal.the-variants.{State}
-use Rattle.house.specs.declared.Resolution.{Resolution}
-use Rattle.house.specs.declared.Resolved.{Resolved}
-use Rattle.house.specs.declared.Resolved.the-variants.{Done, Refused}
+use Rattle.resolving.specs.Resolve.{numberOf}
+use Rattle.answers.specs.declared.Refusal.the-variants.{State}
+use Rattle.answers.specs.declared.Resolution.{Resolution}
+use Rattle.answers.specs.declared.Resolved.{Resolved}
+use Rattle.answers.specs.declared.Resolved.the-variants.{Done, Refused}
 use Rattle.lists.specs.Bytes.{accountsIn, countersIn, paysIn, withLists, countsIn}
 use Rattle.calls.specs.Reply.{Reply, accepted, refused, Replied}
 

@@ -5,12 +5,12 @@ ghost use mir.Syntax.{w64};
 ghost use mir.Val.{toZ};
 ghost use lib.ListN.{length};
 ghost use Rattle.words.specs.Row.{rowAt, plain};
-ghost use Rattle.house.specs.Open.{isOpened};
-ghost use Rattle.house.specs.Deposit.{isDeposited};
-ghost use Rattle.house.specs.Submit.{isSubmitted};
-ghost use Rattle.house.specs.Release.{isReleased};
-ghost use Rattle.house.specs.Group.{isGrouped};
-ghost use Rattle.house.specs.Resolve.{isResolved};
+ghost use Rattle.opening.specs.Open.{isOpened};
+ghost use Rattle.entry.specs.Deposit.{isDeposited};
+ghost use Rattle.entry.specs.Submit.{isSubmitted};
+ghost use Rattle.settling.specs.Release.{isReleased};
+ghost use Rattle.settling.specs.Group.{isGrouped};
+ghost use Rattle.resolving.specs.Resolve.{isResolved};
 ghost use Rattle.lists.specs.Bytes.{countsIn, signedIn};
 ghost use Rattle.calls.specs.Open.{openIn, openTold};
 ghost use Rattle.calls.specs.Deposit.{depositIn, depositTold};
@@ -18,12 +18,12 @@ ghost use Rattle.calls.specs.Submit.{submitIn, submitTold};
 ghost use Rattle.calls.specs.Release.{releaseIn, releaseTold};
 ghost use Rattle.calls.specs.Group.{groupIn, groupTold};
 ghost use Rattle.calls.specs.Resolve.{Listed, Resolving};
-use house::Deposited;
-use house::Grouped;
-use house::Opened;
-use house::Released;
-use house::Resolved;
-use house::Submitted;
+use answers::Deposited;
+use answers::Grouped;
+use answers::Opened;
+use answers::Released;
+use answers::Resolved;
+use answers::Submitted;
 
 // A deposit to a member.
 pub fn deposit(s: &mut [u8], member: u64, amount: u64) -> Deposited

@@ -2,14 +2,14 @@
 ghost use mathlib.Core.Path.{_≡_};
 ghost use Prim.Native.Nat.{_≤_};
 ghost use lib.ListN.{length};
-use house::Deposited;
-use house::Grouped;
-use house::Opened;
-use house::Released;
-use house::Resolution;
-use house::Resolved;
-use house::Submitted;
-use house::Verdict;
+use answers::Deposited;
+use answers::Grouped;
+use answers::Opened;
+use answers::Released;
+use answers::Resolution;
+use answers::Resolved;
+use answers::Submitted;
+use answers::Verdict;
 
 // A number as one that is not below zero: 0 for any that is.
 fn natural(x: i64) -> u64 {
@@ -161,21 +161,21 @@ fn code(n: u32) {
 fn opened(r: Opened) {
     match r {
         Opened::Done(_) => code(0),
-        Opened::Refused(e) => code(house::code(e)),
+        Opened::Refused(e) => code(answers::code(e)),
     }
 }
 
 fn deposited(r: Deposited) {
     match r {
         Deposited::Done(_) => code(0),
-        Deposited::Refused(e) => code(house::code(e)),
+        Deposited::Refused(e) => code(answers::code(e)),
     }
 }
 
 fn submitted(r: Submitted) {
     match r {
         Submitted::Done => code(0),
-        Submitted::Refused(e) => code(house::code(e)),
+        Submitted::Refused(e) => code(answers::code(e)),
     }
 }
 
@@ -188,7 +188,7 @@ fn released(r: Released) {
             field(number);
             field(amount);
         }
-        Released::Refused(e) => code(house::code(e)),
+        Released::Refused(e) => code(answers::code(e)),
     }
 }
 
@@ -200,7 +200,7 @@ fn grouped(r: Grouped) {
             field(payments);
             field(sum);
         }
-        Grouped::Refused(e) => code(house::code(e)),
+        Grouped::Refused(e) => code(answers::code(e)),
     }
 }
 
@@ -208,7 +208,7 @@ fn grouped(r: Grouped) {
 fn resolved(r: Resolved) {
     match r {
         Resolved::Done(x) => resolution(x),
-        Resolved::Refused(e) => code(house::code(e)),
+        Resolved::Refused(e) => code(answers::code(e)),
     }
 }
 

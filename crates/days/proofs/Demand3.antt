@@ -10,7 +10,7 @@ use Rattle.rule.proofs.Demands.{no-bank-favoured, as-at-once}
 use Rattle.tables.specs.Layout.{lastOf, settledOf}
 use Rattle.tables.proofs.Houses.{holds-sound}
 use Rattle.booking.specs.Booking.{listed}
-use Rattle.house.proofs.Resolves.{resolve-holds, resolve-count, resolve-last, resolve-house}
+use Rattle.resolving.proofs.Resolves.{resolve-holds, resolve-count, resolve-last, resolve-house}
 use Rattle.days.specs.Days.{Tables, membersOf, houseIn, Stands, made, Ended, queueIn, Equal}
 use Rattle.days.proofs.Links.{Carried}
 use Rattle.days.proofs.Chains.{chain-carries}

@@ -18,20 +18,20 @@ use Rattle.tables.specs.Layout.{lastOf, moneyOf}
 use Rattle.tables.proofs.States.{holds-state}
 use Rattle.booking.specs.Booking.{listed, accountsBooked, countersBooked, paysBooked}
 use Rattle.booking.proofs.Kept.{booked-count, booked-last, booked-house, booked-holds, booked-money}
-use Rattle.house.specs.Deposit.{accountsDeposited}
-use Rattle.house.specs.Submit.{countersSubmitted, paysSubmitted}
-use Rattle.house.specs.Release.{isReleased, onlyHead}
-use Rattle.house.specs.Group.{isGrouped}
-use Rattle.house.specs.declared.Opened.the-variants as opening
-use Rattle.house.specs.declared.Deposited.the-variants as depositing
-use Rattle.house.specs.declared.Submitted.the-variants as submitting
-use Rattle.house.specs.declared.Released.the-variants as releasing
-use Rattle.house.specs.declared.Grouped.the-variants as grouping
-use Rattle.house.specs.declared.Resolved.the-variants as resolving
-use Rattle.house.proofs.Judging.{Deposits, Submits, deposit-done, submit-done}
-use Rattle.house.proofs.Deposits.{deposits-hold, deposits-call, deposits-money}
-use Rattle.house.proofs.Submits.{submits-hold, submits-count, submits-accepts, submits-call, submits-last}
-use Rattle.house.proofs.Settles.{Books, release-books, group-books}
+use Rattle.entry.specs.Deposit.{accountsDeposited}
+use Rattle.entry.specs.Submit.{countersSubmitted, paysSubmitted}
+use Rattle.settling.specs.Release.{isReleased, onlyHead}
+use Rattle.settling.specs.Group.{isGrouped}
+use Rattle.answers.specs.declared.Opened.the-variants as opening
+use Rattle.answers.specs.declared.Deposited.the-variants as depositing
+use Rattle.answers.specs.declared.Submitted.the-variants as submitting
+use Rattle.answers.specs.declared.Released.the-variants as releasing
+use Rattle.answers.specs.declared.Grouped.the-variants as grouping
+use Rattle.answers.specs.declared.Resolved.the-variants as resolving
+use Rattle.entry.proofs.Judging.{Deposits, Submits, deposit-done, submit-done}
+use Rattle.entry.proofs.Deposits.{deposits-hold, deposits-call, deposits-money}
+use Rattle.entry.proofs.Submits.{submits-hold, submits-count, submits-accepts, submits-call, submits-last}
+use Rattle.settling.proofs.Settles.{Books, release-books, group-books}
 use Rattle.days.specs.Days.{Tables, membersOf, houseIn, Stands, Link, opens, deposits, submits, releases, groups, resolves, did}
 
 -- what calls that were accepted as cs carry from T to W: a state, the count, the house, the last numbers and the sum of balances

@@ -12,9 +12,9 @@ use Rattle.rule.proofs.Same.{same-sym, same-trans}
 use Rattle.rule.proofs.Day.{sound-same}
 use Rattle.rule.proofs.Demands.{as-at-once}
 use Rattle.tables.specs.Layout.{lastOf, moneyOf}
-use Rattle.house.specs.Open.{entry}
-use Rattle.house.proofs.Judging.{Opens, open-done}
-use Rattle.house.proofs.Opens.{opens-count, opens-queue, opens-last, opens-balance, opens-line, opens-money, opens-hold}
+use Rattle.opening.specs.Open.{entry}
+use Rattle.opening.proofs.Judging.{Opens, open-done}
+use Rattle.opening.proofs.Opens.{opens-count, opens-queue, opens-last, opens-balance, opens-line, opens-money, opens-hold}
 use Rattle.days.specs.Days.{Tables, membersOf, houseIn, Stands, made, Ended, openingOf, Begun, queueIn, Equal}
 use Rattle.days.proofs.Joins.{lived-from}
 use Rattle.days.proofs.Demand3.{ended-stands, ended-members, ended-day, equal-queues, ends-equal}

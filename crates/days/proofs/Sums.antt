@@ -11,7 +11,7 @@ use Rattle.rule.specs.Day.{deposits}
 use Rattle.rule.proofs.Day.{carried}
 use Rattle.tables.specs.Layout.{balanceOf, lineOf, moneyOf}
 use Rattle.tables.proofs.Houses.{holds-sound, line-is}
-use Rattle.house.specs.Open.{entry}
+use Rattle.opening.specs.Open.{entry}
 use Rattle.days.specs.Days.{Tables, membersOf, Stands, Chain, made, Begun}
 use Rattle.days.proofs.Chains.{chain-carries}
 use Rattle.days.proofs.Openings.{begun-stands, begun-members, begun-money}

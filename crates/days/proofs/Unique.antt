@@ -4,11 +4,11 @@ use mathlib.Core.List.{List}
 use Prim.Native.Nat.{ℕ}
 use lib.IntN.{ℤ}
 use Rattle.house.specs.Promises.{OpenPromise, DepositPromise, SubmitPromise, ReleasePromise, GroupPromise}
-use Rattle.house.specs.declared.Opened.{Opened}
-use Rattle.house.specs.declared.Deposited.{Deposited}
-use Rattle.house.specs.declared.Submitted.{Submitted}
-use Rattle.house.specs.declared.Released.{Released}
-use Rattle.house.specs.declared.Grouped.{Grouped}
+use Rattle.answers.specs.declared.Opened.{Opened}
+use Rattle.answers.specs.declared.Deposited.{Deposited}
+use Rattle.answers.specs.declared.Submitted.{Submitted}
+use Rattle.answers.specs.declared.Released.{Released}
+use Rattle.answers.specs.declared.Grouped.{Grouped}
 
 -- of an open,
 pub open-one : {a : List ℤ} {c p : List ℕ} {n : ℕ} {b l a₁ a₂ : List ℤ} {c₁ c₂ p₁ p₂ : List ℕ} {r s : Opened}

@@ -12,22 +12,22 @@ use Rattle.rule.specs.Table.{queueOf}
 use Rattle.tables.specs.Layout.{countOf, lastOf, settledOf, wordsOf, houseOf}
 use Rattle.tables.specs.Holds.{Holds}
 use Rattle.booking.specs.Booking.{listed}
-use Rattle.house.specs.Open.{isOpened, entry}
-use Rattle.house.specs.Deposit.{isDeposited}
-use Rattle.house.specs.Submit.{isSubmitted}
-use Rattle.house.specs.Release.{isReleased, onlyHead}
-use Rattle.house.specs.Group.{isGrouped}
-use Rattle.house.specs.Resolve.{isResolved}
+use Rattle.opening.specs.Open.{isOpened, entry}
+use Rattle.entry.specs.Deposit.{isDeposited}
+use Rattle.entry.specs.Submit.{isSubmitted}
+use Rattle.settling.specs.Release.{isReleased, onlyHead}
+use Rattle.settling.specs.Group.{isGrouped}
+use Rattle.resolving.specs.Resolve.{isResolved}
 use Rattle.house.specs.Promises.{OpenPromise, DepositPromise, SubmitPromise, ReleasePromise, GroupPromise, ResolvePromise}
-use Rattle.house.specs.declared.Opened.{Opened}
-use Rattle.house.specs.declared.Opened.the-variants as opening
-use Rattle.house.specs.declared.Deposited.{Deposited}
-use Rattle.house.specs.declared.Submitted.{Submitted}
-use Rattle.house.specs.declared.Released.{Released}
-use Rattle.house.specs.declared.Grouped.{Grouped}
-use Rattle.house.specs.declared.Resolved.{Resolved}
-use Rattle.house.specs.declared.Resolved.the-variants.{Done}
-use Rattle.house.specs.declared.Resolution.{Resolution}
+use Rattle.answers.specs.declared.Opened.{Opened}
+use Rattle.answers.specs.declared.Opened.the-variants as opening
+use Rattle.answers.specs.declared.Deposited.{Deposited}
+use Rattle.answers.specs.declared.Submitted.{Submitted}
+use Rattle.answers.specs.declared.Released.{Released}
+use Rattle.answers.specs.declared.Grouped.{Grouped}
+use Rattle.answers.specs.declared.Resolved.{Resolved}
+use Rattle.answers.specs.declared.Resolved.the-variants.{Done}
+use Rattle.answers.specs.declared.Resolution.{Resolution}
 
 -- the three lent lists
 pub record Tables : Type 0 where

@@ -1,8 +1,1 @@
-pub mod Codes
-pub mod Open
-pub mod Deposit
-pub mod Submit
-pub mod Release
-pub mod Group
-pub mod Resolve
 pub mod Promises

@@ -6,18 +6,18 @@ use mathlib.Core.List.{List}
 use Prim.Native.Nat.{ℕ}
 use lib.IntN.{ℤ}
 use Rattle.booking.specs.Booking.{listed, accountsBooked, countersBooked, paysBooked}
-use Rattle.house.specs.Open.{opened, isOpened, accountsOpened, countersOpened, paysOpened}
-use Rattle.house.specs.Deposit.{deposited, isDeposited, accountsDeposited}
-use Rattle.house.specs.Submit.{submitted, isSubmitted, countersSubmitted, paysSubmitted}
-use Rattle.house.specs.Release.{released, isReleased, onlyHead}
-use Rattle.house.specs.Group.{grouped, isGrouped}
-use Rattle.house.specs.Resolve.{judgeResolve, Resolves}
-use Rattle.house.specs.declared.Opened.{Opened}
-use Rattle.house.specs.declared.Deposited.{Deposited}
-use Rattle.house.specs.declared.Submitted.{Submitted}
-use Rattle.house.specs.declared.Released.{Released}
-use Rattle.house.specs.declared.Grouped.{Grouped}
-use Rattle.house.specs.declared.Resolved.{Resolved}
+use Rattle.answers.specs.declared.Opened.{Opened}
+use Rattle.answers.specs.declared.Deposited.{Deposited}
+use Rattle.answers.specs.declared.Submitted.{Submitted}
+use Rattle.answers.specs.declared.Released.{Released}
+use Rattle.answers.specs.declared.Grouped.{Grouped}
+use Rattle.answers.specs.declared.Resolved.{Resolved}
+use Rattle.opening.specs.Open.{opened, isOpened, accountsOpened, countersOpened, paysOpened}
+use Rattle.entry.specs.Deposit.{deposited, isDeposited, accountsDeposited}
+use Rattle.entry.specs.Submit.{submitted, isSubmitted, countersSubmitted, paysSubmitted}
+use Rattle.settling.specs.Release.{released, isReleased, onlyHead}
+use Rattle.settling.specs.Group.{grouped, isGrouped}
+use Rattle.resolving.specs.Resolve.{judgeResolve, Resolves}
 
 -- n members with balances b and lines l
 pub record OpenPromise (a : List ℤ) (c p : List ℕ) (n : ℕ) (b l a′ : List ℤ) (c′ p′ : List ℕ) (r : Opened) : Type 0 where

@@ -1,124 +1,13 @@
-// The house: the calls on lent tables, their answers and codes. Each call looks at the tables, judges the request, and acts.
-ghost use mathlib.Core.Path.{_≡_};
-ghost use Rattle.house.specs.Codes.{codeOf};
+// The house: the six calls on any lent tables. Each looks whether the tables hold a state, and then acts.
+use answers::Deposited;
+use answers::Grouped;
+use answers::Judged;
+use answers::Opened;
+use answers::Refusal;
+use answers::Released;
+use answers::Resolved;
+use answers::Submitted;
 ghost use Rattle.house.specs.Promises.{OpenPromise, DepositPromise, SubmitPromise, ReleasePromise, GroupPromise, ResolvePromise};
-
-pub mod held;
-pub mod judge;
-pub mod opening;
-
-// Why a call is refused.
-pub enum Refusal {
-    // The lent tables are too short, or hold no state.
-    State,
-    // A member number outside 1 to the count.
-    Member,
-    // Payer and payee are the same.
-    Same,
-    // An amount outside 1 to 10^12.
-    Amount,
-    // The number is not the payer's last + 1.
-    Number,
-    // 2,048 payments wait.
-    Full,
-    // The deposit would take the sum of balances above 10^15.
-    Money,
-    // A release, and nothing waits there.
-    Nothing,
-    // A release or a group that is not covered.
-    Cover,
-    // The list of counts is not as long as the member count, or has a count above what waits.
-    Counts,
-    // A bad opening.
-    Opening,
-    // A bad line in the day file.
-    Line,
-    // Less than 80 bytes are left in the lent output.
-    Room,
-}
-
-// What a request is judged to be.
-pub enum Judged {
-    Fine,
-    Bad(Refusal),
-}
-
-// The answer of an opening: the sum of balances.
-pub enum Opened {
-    Done(i64),
-    Refused(Refusal),
-}
-
-// The answer of a deposit: the new balance.
-pub enum Deposited {
-    Done(i64),
-    Refused(Refusal),
-}
-
-// The answer of a submission.
-pub enum Submitted {
-    Done,
-    Refused(Refusal),
-}
-
-// The answer of a release: payer, number and amount.
-pub enum Released {
-    Done(u64, u64, u64),
-    Refused(Refusal),
-}
-
-// The answer of a group: how many payments, and their sum.
-pub enum Grouped {
-    Done(u64, u64),
-    Refused(Refusal),
-}
-
-// What a resolution found the queue to be.
-pub enum Verdict {
-    // Nothing waited.
-    Empty,
-    // All was settled.
-    Full,
-    // Some was settled.
-    Partial,
-    // Payments waited, and none was settled.
-    Deadlocked,
-}
-
-// What is told of a resolution: the verdict, how many payments, their sum, and the set of members with payments still waiting.
-pub struct Resolution {
-    pub verdict: Verdict,
-    pub payments: u64,
-    pub sum: u64,
-    pub waiting: u64,
-}
-
-// The answer of a resolution.
-pub enum Resolved {
-    Done(Resolution),
-    Refused(Refusal),
-}
-
-// The paper's number of a refusal.
-pub fn code(r: Refusal) -> u32
-    ensures { λ n. ⌜ n ≡ codeOf r ⌝ }
-{
-    match r {
-        Refusal::State => 1,
-        Refusal::Member => 2,
-        Refusal::Same => 3,
-        Refusal::Amount => 4,
-        Refusal::Number => 5,
-        Refusal::Full => 6,
-        Refusal::Money => 7,
-        Refusal::Nothing => 8,
-        Refusal::Cover => 9,
-        Refusal::Counts => 10,
-        Refusal::Opening => 11,
-        Refusal::Line => 12,
-        Refusal::Room => 13,
-    }
-}
 
 // Opens a house of `count` members on lent tables, whatever they held.
 pub fn open(
@@ -157,7 +46,7 @@ pub fn deposit(
     if !tables::look::is_state(accounts, counters, pays) {
         return Deposited::Refused(Refusal::State);
     }
-    held::deposit(accounts, counters, member, amount)
+    entry::deposit::deposit(accounts, counters, member, amount)
 }
 
 // A payment at the tail of its payer's queue, on any lent tables. It settles nothing.
@@ -175,7 +64,7 @@ pub fn submit(
     if !tables::look::is_state(accounts, counters, pays) {
         return Submitted::Refused(Refusal::State);
     }
-    held::submit(counters, pays, payer, number, payee, amount)
+    entry::submit::submit(counters, pays, payer, number, payee, amount)
 }
 
 // Settles a member's head payment if balance + line reach its amount, on any lent tables.
@@ -190,7 +79,7 @@ pub fn release(
     if !tables::look::is_state(accounts, counters, pays) {
         return Released::Refused(Refusal::State);
     }
-    held::settle::release(accounts, counters, pays, member)
+    settling::release(accounts, counters, pays, member)
 }
 
 // Settles that many payments from each head at once, if the set is allowed, on any lent tables.
@@ -205,7 +94,7 @@ pub fn group(
     if !tables::look::is_state(accounts, counters, pays) {
         return Grouped::Refused(Refusal::State);
     }
-    held::settle::group(accounts, counters, pays, counts)
+    settling::group(accounts, counters, pays, counts)
 }
 
 // Settles the largest allowed set and writes its counts into the lent list, on any lent tables.
@@ -220,5 +109,5 @@ pub fn resolve(
     if !tables::look::is_state(accounts, counters, pays) {
         return Resolved::Refused(Refusal::State);
     }
-    held::resolve::resolve(accounts, counters, pays, counts)
+    resolving::resolve(accounts, counters, pays, counts)
 }

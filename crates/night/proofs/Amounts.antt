@@ -21,13 +21,13 @@ use Rattle.tables.specs.Sizes.{limit}
 use Rattle.tables.specs.Layout.{countOf, settledOf, wordsOf, houseOf}
 use Rattle.tables.specs.Holds.{Payment, Holds}
 use Rattle.tables.proofs.Houses.{queue-each, holds-payment, waiting-sum}
-use Rattle.house.specs.Codes.{test, isMember}
-use Rattle.house.specs.Release.{headAmount, headCovered, judgeRelease, answerRelease, heldRelease}
-use Rattle.house.specs.declared.Refusal.the-variants.{Member, Nothing, Cover}
-use Rattle.house.specs.declared.Judged.{Judged}
-use Rattle.house.specs.declared.Judged.the-variants.{Fine, Bad}
-use Rattle.house.specs.declared.Released.the-variants.{Done}
-use Rattle.house.proofs.Judging.{first-fine, member-in}
+use Rattle.answers.specs.Codes.{test, isMember}
+use Rattle.settling.specs.Release.{headAmount, headCovered, judgeRelease, answerRelease, heldRelease}
+use Rattle.answers.specs.declared.Refusal.the-variants.{Member, Nothing, Cover}
+use Rattle.answers.specs.declared.Judged.{Judged}
+use Rattle.answers.specs.declared.Judged.the-variants.{Fine, Bad}
+use Rattle.answers.specs.declared.Released.the-variants.{Done}
+use Rattle.answers.proofs.Judging.{first-fine, member-in}
 
 total-small : (l : List ℕ) → ((k : ℕ) → k < length l → amountOf (getD l k 0) ≤ limit) → total amountOf l ≤ length l * limit
 total-small [] f = omega arith

@@ -5,8 +5,8 @@ use mathlib.Core.List.{List}
 use Prim.Native.Nat.{ℕ}
 use lib.IntN.{ℤ}
 use Rattle.rule.specs.Kernel.{Counts}
-use Rattle.house.specs.Deposit.{heldDeposit, isDeposited, accountsDeposited}
-use Rattle.house.specs.Submit.{heldSubmit, isSubmitted, countersSubmitted, paysSubmitted}
+use Rattle.entry.specs.Deposit.{heldDeposit, isDeposited, accountsDeposited}
+use Rattle.entry.specs.Submit.{heldSubmit, isSubmitted, countersSubmitted, paysSubmitted}
 use Rattle.dayfile.specs.declared.Entry.{Entry}
 use Rattle.dayfile.specs.declared.Entry.the-variants as E
 use Rattle.print.specs.declared.Says.{Says}

@@ -23,32 +23,33 @@ use Rattle.tables.proofs.Balances.{holds-low, holds-near, balance-high}
 use Rattle.tables.proofs.Houses.{holds-sound, few-wait}
 use Rattle.booking.specs.Booking.{listed}
 use Rattle.booking.proofs.Kept.{booked-holds}
-use Rattle.house.specs.Codes.{codeOf}
-use Rattle.house.specs.Open.{opened, accountsOpened}
-use Rattle.house.specs.Deposit.{judgeDeposit, answerDeposit, heldDeposit}
-use Rattle.house.specs.Submit.{heldSubmit}
-use Rattle.house.specs.Release.{heldRelease, isReleased, onlyHead}
-use Rattle.house.specs.Group.{judgeGroup, answerGroup, heldGroup, isGrouped}
-use Rattle.house.specs.Resolve.{stillWaits}
-use Rattle.house.specs.declared.Released.{Released}
-use Rattle.house.specs.declared.Released.the-variants as releasing
-use Rattle.house.specs.declared.Grouped.{Grouped}
-use Rattle.house.specs.declared.Grouped.the-variants as grouping
-use Rattle.house.specs.declared.Refusal.{Refusal}
-use Rattle.house.specs.declared.Refusal.the-variants as R
-use Rattle.house.specs.declared.Judged.{Judged}
-use Rattle.house.specs.declared.Judged.the-variants.{Fine, Bad}
-use Rattle.house.specs.declared.Opened.{Opened}
-use Rattle.house.specs.declared.Opened.the-variants as opening
-use Rattle.house.specs.declared.Deposited.{Deposited}
-use Rattle.house.specs.declared.Deposited.the-variants as depositing
-use Rattle.house.specs.declared.Submitted.{Submitted}
-use Rattle.house.specs.declared.Submitted.the-variants as submitting
-use Rattle.house.proofs.Judging.{open-done, deposit-done, submit-done}
-use Rattle.house.proofs.Opens.{open-holds, opens-money}
-use Rattle.house.proofs.Deposits.{deposit-holds}
-use Rattle.house.proofs.Submits.{submit-holds}
-use Rattle.house.proofs.Settles.{Books, group-books, release-books}
+use Rattle.answers.specs.Codes.{codeOf}
+use Rattle.opening.specs.Open.{opened, accountsOpened}
+use Rattle.entry.specs.Deposit.{judgeDeposit, answerDeposit, heldDeposit}
+use Rattle.entry.specs.Submit.{heldSubmit}
+use Rattle.settling.specs.Release.{heldRelease, isReleased, onlyHead}
+use Rattle.settling.specs.Group.{judgeGroup, answerGroup, heldGroup, isGrouped}
+use Rattle.resolving.specs.Resolve.{stillWaits}
+use Rattle.answers.specs.declared.Released.{Released}
+use Rattle.answers.specs.declared.Released.the-variants as releasing
+use Rattle.answers.specs.declared.Grouped.{Grouped}
+use Rattle.answers.specs.declared.Grouped.the-variants as grouping
+use Rattle.answers.specs.declared.Refusal.{Refusal}
+use Rattle.answers.specs.declared.Refusal.the-variants as R
+use Rattle.answers.specs.declared.Judged.{Judged}
+use Rattle.answers.specs.declared.Judged.the-variants.{Fine, Bad}
+use Rattle.answers.specs.declared.Opened.{Opened}
+use Rattle.answers.specs.declared.Opened.the-variants as opening
+use Rattle.answers.specs.declared.Deposited.{Deposited}
+use Rattle.answers.specs.declared.Deposited.the-variants as depositing
+use Rattle.answers.specs.declared.Submitted.{Submitted}
+use Rattle.answers.specs.declared.Submitted.the-variants as submitting
+use Rattle.opening.proofs.Judging.{open-done}
+use Rattle.entry.proofs.Judging.{deposit-done, submit-done}
+use Rattle.opening.proofs.Opens.{open-holds, opens-money}
+use Rattle.entry.proofs.Deposits.{deposit-holds}
+use Rattle.entry.proofs.Submits.{submit-holds}
+use Rattle.settling.proofs.Settles.{Books, group-books, release-books}
 use Rattle.dayfile.specs.declared.Entry.{Entry}
 use Rattle.dayfile.specs.declared.Entry.the-variants as E
 use Rattle.print.specs.Room.{Ranges}

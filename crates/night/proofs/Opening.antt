@@ -16,11 +16,11 @@ use lib.Signed.{mag}
 use Rattle.rule.proofs.Ints.{held}
 use Rattle.numbers.specs.Numbers.{mostDigits}
 use Rattle.numbers.proofs.Signs.{held-small}
-use Rattle.house.specs.Open.{opened, isOpened, accountsOpened, countersOpened, paysOpened}
-use Rattle.house.specs.declared.Opened.{Opened}
-use Rattle.house.specs.declared.Opened.the-variants as opening
-use Rattle.house.specs.declared.Refusal.{Refusal}
-use Rattle.house.specs.declared.Refusal.the-variants.{Opening, Line}
+use Rattle.opening.specs.Open.{opened, isOpened, accountsOpened, countersOpened, paysOpened}
+use Rattle.answers.specs.declared.Opened.{Opened}
+use Rattle.answers.specs.declared.Opened.the-variants as opening
+use Rattle.answers.specs.declared.Refusal.{Refusal}
+use Rattle.answers.specs.declared.Refusal.the-variants.{Opening, Line}
 use Rattle.dayfile.specs.declared.Entry.{Entry}
 use Rattle.dayfile.specs.declared.Entry.the-variants as E
 use Rattle.print.specs.declared.Says.the-variants as S

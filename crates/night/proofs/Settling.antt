@@ -23,13 +23,13 @@ use Rattle.tables.proofs.Tests.{and-both}
 use Rattle.tables.proofs.Every.{every-at}
 use Rattle.tables.proofs.Houses.{holds-sound, few-wait}
 use Rattle.booking.specs.Booking.{listed, accountsBooked, countersBooked, paysBooked}
-use Rattle.house.specs.Group.{countAt, isCounts, heldGroup, isGrouped}
-use Rattle.house.specs.Resolve.{judgeHeld, Settled}
-use Rattle.house.specs.declared.Judged.the-variants.{Fine, Bad}
-use Rattle.house.specs.declared.Refusal.{Refusal}
-use Rattle.house.specs.declared.Resolution.{Resolution}
-use Rattle.house.proofs.Settles.{group-bad}
-use Rattle.house.proofs.Resolves.{resolve-waiting}
+use Rattle.settling.specs.Group.{countAt, isCounts, heldGroup, isGrouped}
+use Rattle.resolving.specs.Resolve.{judgeHeld, Settled}
+use Rattle.answers.specs.declared.Judged.the-variants.{Fine, Bad}
+use Rattle.answers.specs.declared.Refusal.{Refusal}
+use Rattle.answers.specs.declared.Resolution.{Resolution}
+use Rattle.settling.proofs.Settles.{group-bad}
+use Rattle.resolving.proofs.Resolves.{resolve-waiting}
 use Rattle.print.specs.declared.Says.{Says}
 use Rattle.night.specs.Lines.{Tables, tables, bookedIf, least, membersIn, houseIn, largestIn, resolveSays, resolutionSays}
 

@@ -17,26 +17,26 @@ use Rattle.sets.specs.Sets.{sizeOf, lowestOf, lowestIn}
 use Rattle.booking.specs.Booking.{listed, accountsBooked, countersBooked, paysBooked}
 use Rattle.tables.specs.Sizes.{members}
 use Rattle.tables.specs.Layout.{countOf, balanceOf, moneyOf, wordsOf, houseOf}
-use Rattle.house.specs.Codes.{codeOf}
-use Rattle.house.specs.Open.{opened, isOpened, accountsOpened, countersOpened, paysOpened}
-use Rattle.house.specs.Deposit.{heldDeposit, isDeposited, accountsDeposited}
-use Rattle.house.specs.Submit.{heldSubmit, isSubmitted, countersSubmitted, paysSubmitted}
-use Rattle.house.specs.Release.{heldRelease, isReleased, onlyHead}
-use Rattle.house.specs.Group.{heldGroup, isGrouped}
-use Rattle.house.specs.Resolve.{numberOf, stillWaits}
-use Rattle.house.specs.declared.Resolution.{Resolution}
-use Rattle.house.specs.declared.Released.{Released}
-use Rattle.house.specs.declared.Released.the-variants as releasing
-use Rattle.house.specs.declared.Grouped.{Grouped}
-use Rattle.house.specs.declared.Grouped.the-variants as grouping
-use Rattle.house.specs.declared.Refusal.{Refusal}
-use Rattle.house.specs.declared.Refusal.the-variants.{Opening, Line}
-use Rattle.house.specs.declared.Opened.{Opened}
-use Rattle.house.specs.declared.Opened.the-variants as opening
-use Rattle.house.specs.declared.Deposited.{Deposited}
-use Rattle.house.specs.declared.Deposited.the-variants as depositing
-use Rattle.house.specs.declared.Submitted.{Submitted}
-use Rattle.house.specs.declared.Submitted.the-variants as submitting
+use Rattle.answers.specs.Codes.{codeOf}
+use Rattle.opening.specs.Open.{opened, isOpened, accountsOpened, countersOpened, paysOpened}
+use Rattle.entry.specs.Deposit.{heldDeposit, isDeposited, accountsDeposited}
+use Rattle.entry.specs.Submit.{heldSubmit, isSubmitted, countersSubmitted, paysSubmitted}
+use Rattle.settling.specs.Release.{heldRelease, isReleased, onlyHead}
+use Rattle.settling.specs.Group.{heldGroup, isGrouped}
+use Rattle.resolving.specs.Resolve.{numberOf, stillWaits}
+use Rattle.answers.specs.declared.Resolution.{Resolution}
+use Rattle.answers.specs.declared.Released.{Released}
+use Rattle.answers.specs.declared.Released.the-variants as releasing
+use Rattle.answers.specs.declared.Grouped.{Grouped}
+use Rattle.answers.specs.declared.Grouped.the-variants as grouping
+use Rattle.answers.specs.declared.Refusal.{Refusal}
+use Rattle.answers.specs.declared.Refusal.the-variants.{Opening, Line}
+use Rattle.answers.specs.declared.Opened.{Opened}
+use Rattle.answers.specs.declared.Opened.the-variants as opening
+use Rattle.answers.specs.declared.Deposited.{Deposited}
+use Rattle.answers.specs.declared.Deposited.the-variants as depositing
+use Rattle.answers.specs.declared.Submitted.{Submitted}
+use Rattle.answers.specs.declared.Submitted.the-variants as submitting
 use Rattle.dayfile.specs.declared.Entry.{Entry}
 use Rattle.dayfile.specs.declared.Entry.the-variants as E
 use Rattle.print.specs.declared.Says.{Says}

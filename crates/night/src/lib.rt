@@ -1,14 +1,14 @@
 // The night, line by line: what each line of the day file does to the stage and the tables, and what it says on the sheet.
+use answers::Deposited;
+use answers::Grouped;
+use answers::Opened;
+use answers::Refusal;
+use answers::Released;
+use answers::Resolution;
+use answers::Resolved;
+use answers::Submitted;
+use answers::Verdict;
 use dayfile::Entry;
-use house::Deposited;
-use house::Grouped;
-use house::Opened;
-use house::Refusal;
-use house::Released;
-use house::Resolution;
-use house::Resolved;
-use house::Submitted;
-use house::Verdict;
 use print::Says;
 use tables::House;
 use tables::steps::signed;
@@ -20,12 +20,12 @@ ghost use lib.IntN.{pos};
 ghost use lib.ListN.{length, getD, take, drop, set};
 ghost use Rattle.booking.specs.Booking.{listed};
 ghost use Rattle.tables.specs.Holds.{Holds, Accounts, Queues};
-ghost use Rattle.house.specs.Deposit.{heldDeposit, isDeposited, accountsDeposited};
-ghost use Rattle.house.specs.Submit.{heldSubmit, isSubmitted, countersSubmitted, paysSubmitted};
-ghost use Rattle.house.specs.Release.{heldRelease, isReleased, onlyHead};
-ghost use Rattle.house.specs.Group.{heldGroup, isGrouped};
-ghost use Rattle.house.specs.Resolve.{numberOf};
-ghost use Rattle.house.specs.declared.Refusal.the-variants.{Line};
+ghost use Rattle.entry.specs.Deposit.{heldDeposit, isDeposited, accountsDeposited};
+ghost use Rattle.entry.specs.Submit.{heldSubmit, isSubmitted, countersSubmitted, paysSubmitted};
+ghost use Rattle.settling.specs.Release.{heldRelease, isReleased, onlyHead};
+ghost use Rattle.settling.specs.Group.{heldGroup, isGrouped};
+ghost use Rattle.resolving.specs.Resolve.{numberOf};
+ghost use Rattle.answers.specs.declared.Refusal.the-variants.{Line};
 ghost use Rattle.night.specs.declared.Stage.the-variants.{Day, Over};
 ghost use Rattle.night.specs.declared.Said.the-variants.{Nothing, One};
 ghost use Rattle.night.specs.Lines.{Tables, tables, did, refusal, houseDoes, openDoes, memberDoes, paySays, depositSays, bookedIf, releaseSays, groupSays, least, membersIn, houseIn, largestIn, resolveSays, resolutionSays, dayDoes, doesOf, endAt, endNext};
@@ -99,7 +99,7 @@ fn says(s: Says, stage: Stage) -> Does
 fn refused(n: u64, r: Refusal) -> Says
     ensures { λ s. ⌜ s ≡ refusal n r ⌝ }
 {
-    Says::Refused(n, house::code(r) as u64)
+    Says::Refused(n, answers::code(r) as u64)
 }
 
 // A refusal in the opening: the night stops.
@@ -254,7 +254,7 @@ fn pay(
     ensures { λ r. ⌜ now (counters .exit) ≡ cond (isSubmitted (heldSubmit (now (counters .entry)) payer number payee amount)) (countersSubmitted (now (counters .entry)) payer number) (now (counters .entry)) ⌝ }
     ensures { λ r. ⌜ now (pays .exit) ≡ cond (isSubmitted (heldSubmit (now (counters .entry)) payer number payee amount)) (paysSubmitted (now (counters .entry)) (now (pays .entry)) payer payee amount) (now (pays .entry)) ⌝ }
 {
-    let r = house::held::submit(counters, pays, payer, number, payee, amount);
+    let r = entry::submit::submit(counters, pays, payer, number, payee, amount);
     match r {
         Submitted::Done => Says::Queued(n, payer, number),
         Submitted::Refused(r) => refused(n, r),
@@ -267,7 +267,7 @@ fn deposit(accounts: &mut [i64], counters: &[u32], n: u64, member: u64, amount: 
     ensures { λ r. ⌜ r ≡ depositSays n member (heldDeposit (now (accounts .entry)) (now (counters .entry)) member amount) ⌝ }
     ensures { λ r. ⌜ now (accounts .exit) ≡ cond (isDeposited (heldDeposit (now (accounts .entry)) (now (counters .entry)) member amount)) (accountsDeposited (now (accounts .entry)) member amount) (now (accounts .entry)) ⌝ }
 {
-    let r = house::held::deposit(accounts, counters, member, amount);
+    let r = entry::deposit::deposit(accounts, counters, member, amount);
     match r {
         Deposited::Done(b) => Says::Deposited(n, member, b),
         Deposited::Refused(r) => refused(n, r),
@@ -286,7 +286,7 @@ fn release(
     ensures { λ r. ⌜ r ≡ releaseSays n (heldRelease (now (accounts .entry)) (now (counters .entry)) (now (pays .entry)) member) ⌝ }
     ensures { λ r. ⌜ tables (now (accounts .exit)) (now (counters .exit)) (now (pays .exit)) ≡ bookedIf (isReleased (heldRelease (now (accounts .entry)) (now (counters .entry)) (now (pays .entry)) member)) (tables (now (accounts .entry)) (now (counters .entry)) (now (pays .entry))) (onlyHead member) ⌝ }
 {
-    let r = house::held::settle::release(accounts, counters, pays, member);
+    let r = settling::release(accounts, counters, pays, member);
     match r {
         Released::Done(payer, number, amount) => Says::Released(n, payer, number, amount),
         Released::Refused(r) => refused(n, r),
@@ -307,7 +307,7 @@ fn group(
     ensures { λ r. ⌜ tables (now (accounts .exit)) (now (counters .exit)) (now (pays .exit)) ≡ bookedIf (isGrouped (heldGroup (now (accounts .entry)) (now (counters .entry)) (now (pays .entry)) (take m (now (counts .entry))))) (tables (now (accounts .entry)) (now (counters .entry)) (now (pays .entry))) (listed (take m (now (counts .entry)))) ⌝ }
 {
     let k = narrowed(counts, m);
-    let r = house::held::settle::group(accounts, counters, pays, &k[..m]);
+    let r = settling::group(accounts, counters, pays, &k[..m]);
     match r {
         Grouped::Done(payments, sum) => Says::Group(n, payments, sum),
         Grouped::Refused(r) => refused(n, r),
@@ -343,7 +343,7 @@ fn resolve(accounts: &mut [i64], counters: &mut [u32], pays: &mut [u64], n: u64)
 {
     let mut k = [0u16; 64];
     let m = wide(counters[0]);
-    let r = house::held::resolve::resolve(accounts, counters, pays, &mut k[..m]);
+    let r = resolving::resolve(accounts, counters, pays, &mut k[..m]);
     match r {
         Resolved::Done(x) => told(n, x),
         Resolved::Refused(r) => refused(n, r),

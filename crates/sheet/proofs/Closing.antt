@@ -5,7 +5,7 @@ use mathlib.Core.List.{List, [], _∷_, _++_, append-nil}
 use Prim.Native.Nat.{ℕ, zero, suc, _+_, _≤_, _<_}
 use native.Mathlib.Omega.{arith}
 use lib.ListN.{length, take}
-use Rattle.house.specs.declared.Refusal.the-variants as R
+use Rattle.answers.specs.declared.Refusal.the-variants as R
 use Rattle.cut.specs.Lines.{Line}
 use Rattle.cut.specs.declared.Cut.{Cut}
 use Rattle.cut.specs.Chunks.{lineOf, stateOf, endBy}

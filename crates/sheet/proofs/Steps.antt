@@ -6,7 +6,7 @@ use Prim.Native.Nat.{ℕ, _+_, _≤_, _<_}
 use native.Mathlib.Omega.{arith}
 use borrow.Author.Tests.{lt-ltb, le-ltb}
 use lib.ListN.{length, getD, take}
-use Rattle.house.specs.declared.Refusal.the-variants as R
+use Rattle.answers.specs.declared.Refusal.the-variants as R
 use Rattle.dayfile.specs.declared.Entry.{Entry}
 use Rattle.cut.specs.Lines.{Line}
 use Rattle.print.specs.Lines.{textOf}

@@ -6,7 +6,7 @@ use Prim.Native.Nat.{ℕ, _+_}
 use lib.Dec.{ltb}
 use lib.IntN.{pos}
 use lib.ListN.{drop, replicate}
-use Rattle.house.specs.declared.Refusal.the-variants as R
+use Rattle.answers.specs.declared.Refusal.the-variants as R
 use Rattle.dayfile.specs.declared.Entry.{Entry}
 use Rattle.dayfile.specs.declared.Entry.the-variants as E
 use Rattle.dayfile.specs.Entries.{entryOf, countsOf}

@@ -10,7 +10,7 @@ ghost use mathlib.Core.Bool.{true, false, not};
 ghost use mathlib.Core.List.{_++_};
 ghost use Prim.Native.Nat.{ℕ, _+_, _≤_, _<_};
 ghost use lib.ListN.{length, take, drop};
-ghost use Rattle.house.specs.declared.Refusal.the-variants.{Line};
+ghost use Rattle.answers.specs.declared.Refusal.the-variants.{Line};
 ghost use Rattle.cut.specs.Lines.{mostBytes};
 ghost use Rattle.cut.specs.Chunks.{lineOf, stateOf, feedOf};
 ghost use Rattle.print.specs.Lines.{textOf};

@@ -6,19 +6,19 @@ use mathlib.Core.List.{List, []}
 use Prim.Native.Nat.{ℕ}
 use lib.IntN.{ℤ}
 use Rattle.words.specs.Row.{putRow, plain}
-use Rattle.house.specs.declared.Refusal.the-variants.{State}
-use Rattle.house.specs.declared.Opened.{Opened}
-use Rattle.house.specs.declared.Opened.the-variants.{Done as Opens, Refused as Shut}
-use Rattle.house.specs.declared.Deposited.{Deposited}
-use Rattle.house.specs.declared.Deposited.the-variants.{Done, Refused}
-use Rattle.house.specs.declared.Submitted.{Submitted}
-use Rattle.house.specs.declared.Submitted.the-variants.{Done as Taken, Refused as Declined}
-use Rattle.house.specs.declared.Released.{Released}
-use Rattle.house.specs.declared.Released.the-variants.{Done as Left, Refused as Stays}
-use Rattle.house.specs.declared.Grouped.{Grouped}
-use Rattle.house.specs.declared.Grouped.the-variants.{Done as Booked, Refused as Waits}
-use Rattle.house.specs.declared.Resolved.{Resolved}
-use Rattle.house.specs.declared.Resolved.the-variants.{Done as Settled, Refused as Unsettled}
+use Rattle.answers.specs.declared.Refusal.the-variants.{State}
+use Rattle.answers.specs.declared.Opened.{Opened}
+use Rattle.answers.specs.declared.Opened.the-variants.{Done as Opens, Refused as Shut}
+use Rattle.answers.specs.declared.Deposited.{Deposited}
+use Rattle.answers.specs.declared.Deposited.the-variants.{Done, Refused}
+use Rattle.answers.specs.declared.Submitted.{Submitted}
+use Rattle.answers.specs.declared.Submitted.the-variants.{Done as Taken, Refused as Declined}
+use Rattle.answers.specs.declared.Released.{Released}
+use Rattle.answers.specs.declared.Released.the-variants.{Done as Left, Refused as Stays}
+use Rattle.answers.specs.declared.Grouped.{Grouped}
+use Rattle.answers.specs.declared.Grouped.the-variants.{Done as Booked, Refused as Waits}
+use Rattle.answers.specs.declared.Resolved.{Resolved}
+use Rattle.answers.specs.declared.Resolved.the-variants.{Done as Settled, Refused as Unsettled}
 use Rattle.calls.specs.Reply.{Reply, refused, Stored, Replied}
 use Rattle.calls.specs.Open.{openTold}
 use Rattle.calls.specs.Deposit.{depositTold}

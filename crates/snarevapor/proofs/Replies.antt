@@ -12,7 +12,7 @@ use mir.Facts.{toZ-ofZ}
 use Rattle.tables.proofs.Tests.{and-both}
 use Rattle.words.specs.Le.{putAt}
 use Rattle.words.specs.Row.{putRow, plain}
-use Rattle.house.specs.declared.Refusal.the-variants.{State}
+use Rattle.answers.specs.declared.Refusal.the-variants.{State}
 use Rattle.lists.specs.Bytes.{roomy}
 use Rattle.calls.specs.Reply.{Reply, refused, Stored, Replied}
 

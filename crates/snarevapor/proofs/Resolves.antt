@@ -4,7 +4,7 @@ use mathlib.Core.Bool.{Bool, true, false}
 use mathlib.Core.List.{List}
 use Prim.Native.Nat.{ℕ}
 use Rattle.words.specs.Row.{putRow, plain}
-use Rattle.house.specs.declared.Resolved.{Resolved}
+use Rattle.answers.specs.declared.Resolved.{Resolved}
 use Rattle.lists.specs.Bytes.{countsIn}
 use Rattle.calls.specs.Resolve.{resolveTold, Resolving, Resolve}
 use Rattle.snarevapor.proofs.Replies.{told-none}

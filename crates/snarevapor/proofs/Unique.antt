@@ -4,9 +4,9 @@ use mathlib.Core.Bool.{Bool, true, false}
 use mathlib.Core.List.{List}
 use Prim.Native.Nat.{ℕ}
 use lib.IntN.{ℤ}
-use Rattle.house.specs.Resolve.{judgeResolve}
-use Rattle.house.specs.declared.Resolved.{Resolved}
-use Rattle.house.proofs.Resolves.{resolve-one}
+use Rattle.resolving.specs.Resolve.{judgeResolve}
+use Rattle.answers.specs.declared.Resolved.{Resolved}
+use Rattle.resolving.proofs.Resolves.{resolve-one}
 use Rattle.lists.specs.Bytes.{accountsIn, countersIn, paysIn, lent, countsIn}
 use Rattle.calls.specs.Reply.{Reply, Stored, Replied}
 use Rattle.calls.specs.Open.{openReply}

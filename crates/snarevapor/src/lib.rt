@@ -10,12 +10,12 @@ ghost use Rattle.calls.specs.Resolve.{Resolve};
 
 mod tell;
 
-use house::Deposited;
-use house::Grouped;
-use house::Opened;
-use house::Released;
-use house::Resolved;
-use house::Submitted;
+use answers::Deposited;
+use answers::Grouped;
+use answers::Opened;
+use answers::Released;
+use answers::Resolved;
+use answers::Submitted;
 
 // Opens a house of `count` members, whatever the tables held. Told: the sum of balances.
 #[no_mangle]
@@ -37,7 +37,7 @@ pub extern "C" fn snarevapor_open(
             words::write_i64(answer, 0, sum);
             0
         }
-        Opened::Refused(why) => house::code(why),
+        Opened::Refused(why) => answers::code(why),
     }
 }
 
@@ -60,7 +60,7 @@ pub extern "C" fn snarevapor_deposit(
             words::write_i64(answer, 0, balance);
             0
         }
-        Deposited::Refused(why) => house::code(why),
+        Deposited::Refused(why) => answers::code(why),
     }
 }
 
@@ -81,7 +81,7 @@ pub extern "C" fn snarevapor_submit(
     let r = calls::submit(tables, payer, number, payee, amount);
     match r {
         Submitted::Done => 0,
-        Submitted::Refused(why) => house::code(why),
+        Submitted::Refused(why) => answers::code(why),
     }
 }
 
@@ -99,7 +99,7 @@ pub extern "C" fn snarevapor_release(tables: &mut [u8], member: u64, answer: &mu
             tell::pair(answer, number, amount);
             0
         }
-        Released::Refused(why) => house::code(why),
+        Released::Refused(why) => answers::code(why),
     }
 }
 
@@ -117,7 +117,7 @@ pub extern "C" fn snarevapor_group(tables: &mut [u8], counts: &[u8], answer: &mu
             tell::pair(answer, payments, sum);
             0
         }
-        Grouped::Refused(why) => house::code(why),
+        Grouped::Refused(why) => answers::code(why),
     }
 }
 
@@ -136,6 +136,6 @@ pub extern "C" fn snarevapor_resolve(tables: &mut [u8], counts: &mut [u8], answe
             tell::resolution(answer, x);
             0
         }
-        Resolved::Refused(why) => house::code(why),
+        Resolved::Refused(why) => answers::code(why),
     }
 }

@@ -4,10 +4,10 @@ ghost use mathlib.Core.List.{[], _∷_};
 ghost use Prim.Native.Nat.{_≤_};
 ghost use lib.ListN.{length};
 ghost use Rattle.words.specs.Row.{putRow, plain};
-ghost use Rattle.house.specs.Resolve.{numberOf};
+ghost use Rattle.resolving.specs.Resolve.{numberOf};
 ghost use Rattle.calls.specs.Resolve.{partsOf};
-use house::Resolution;
-use house::Verdict;
+use answers::Resolution;
+use answers::Verdict;
 
 // Writes two parts into the answer.
 pub fn pair(answer: &mut [u8], x: u64, y: u64)

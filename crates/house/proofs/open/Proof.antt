@@ -5,10 +5,10 @@ use native.Mathlib.Omega.{arith}
 use Rattle.rule.proofs.Ints.{plain}
 use Rattle.rule.specs.House.{money}
 use Rattle.tables.proofs.Balances.{near-holder}
-use Rattle.house.specs.Open.{entry, judgeOpen, answerOpen}
-use Rattle.house.specs.declared.Judged.the-variants.{Fine}
-use Rattle.house.specs.declared.Opened.the-variants.{Done}
-use Rattle.house.proofs.Judging.{Opens, open-fine}
+use Rattle.answers.specs.declared.Judged.the-variants.{Fine}
+use Rattle.answers.specs.declared.Opened.the-variants.{Done}
+use Rattle.opening.specs.Open.{entry, judgeOpen, answerOpen}
+use Rattle.opening.proofs.Judging.{Opens, open-fine}
 use Rattle.house.proofs.open.Statement.{statement}
 use Rattle.house.proofs.open.Tie as tie
 

@@ -2,8 +2,8 @@
 use Rattle.night.proofs.Stages.{read-group}
 use Rattle.night.proofs.Day.{pay-did, booked-did, deposit-did}
 use Rattle.night.specs.Lines.{tables, largestIn}
-use Rattle.house.specs.Group.{heldGroup, isGrouped}
-use Rattle.house.specs.Release.{heldRelease, isReleased, onlyHead}
+use Rattle.settling.specs.Group.{heldGroup, isGrouped}
+use Rattle.settling.specs.Release.{heldRelease, isReleased, onlyHead}
 use Rattle.booking.specs.Booking.{listed}
 use lib.ListN.{take}
 use mathlib.Core.Bool.{true}

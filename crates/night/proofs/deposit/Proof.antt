@@ -1,7 +1,7 @@
 -- `night::deposit` meets its contract: no loop.
 use Rattle.night.specs.Lines.{depositSays}
-use Rattle.house.specs.Deposit.{isDeposited, accountsDeposited}
-use Rattle.house.specs.declared.Deposited.{Deposited}
+use Rattle.entry.specs.Deposit.{isDeposited, accountsDeposited}
+use Rattle.answers.specs.declared.Deposited.{Deposited}
 use Rattle.rule.proofs.Ints.{plain}
 use mathlib.Core.Bool.{cond}
 use mathlib.Core.Path.{sym, ap, _∙_}

@@ -1,7 +1,7 @@
 -- `night::group` meets its contract: no loop.
 use Rattle.night.proofs.Settling.{booked-after, group-narrowed}
 use Rattle.night.specs.Lines.{tables, groupSays}
-use Rattle.house.specs.Group.{isGrouped}
+use Rattle.settling.specs.Group.{isGrouped}
 use Rattle.booking.specs.Booking.{listed}
 use lib.ListN.{take, length-take}
 use mathlib.Core.Path.{sym, ap, _∙_}

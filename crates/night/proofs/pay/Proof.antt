@@ -1,7 +1,7 @@
 -- `night::pay` meets its contract: no loop.
 use Rattle.night.specs.Lines.{paySays}
-use Rattle.house.specs.Submit.{isSubmitted, countersSubmitted, paysSubmitted}
-use Rattle.house.specs.declared.Submitted.{Submitted}
+use Rattle.entry.specs.Submit.{isSubmitted, countersSubmitted, paysSubmitted}
+use Rattle.answers.specs.declared.Submitted.{Submitted}
 use mathlib.Core.Bool.{cond}
 use mathlib.Core.Path.{sym, ap, _∙_}
 use borrow.Author.Needs.{needs}

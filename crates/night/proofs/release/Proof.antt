@@ -1,7 +1,7 @@
 -- `night::release` meets its contract: no loop.
 use Rattle.night.proofs.Settling.{booked-after}
 use Rattle.night.specs.Lines.{tables, releaseSays}
-use Rattle.house.specs.Release.{isReleased, onlyHead}
+use Rattle.settling.specs.Release.{isReleased, onlyHead}
 use mathlib.Core.Path.{sym, ap, _∙_}
 use borrow.Author.Needs.{needs}
 use Rattle.night.proofs.release.Statement.{statement}

@@ -1,0 +1,69 @@
+-- `entry::deposit::deposit` meets its contract: no loop; a judgement that found nothing gives what `credit` asks.
+use borrow.Author.Needs.{needs}
+use mathlib.Core.Path.{_≡_, refl, sym, ap, _∙_}
+use native.Mathlib.Omega.{arith}
+use Rattle.rule.proofs.Ints.{plain}
+use Rattle.tables.proofs.Houses.{holds-bounded}
+use Rattle.answers.specs.declared.Judged.the-variants.{Fine}
+use Rattle.answers.specs.declared.Deposited.the-variants.{Done}
+use Rattle.entry.specs.Deposit.{judgeDeposit, answerDeposit}
+use Rattle.entry.proofs.Judging.{Deposits, deposit-fine}
+use Rattle.entry.proofs.deposit.deposit.Statement.{statement}
+use Rattle.entry.proofs.deposit.deposit.Tie as tie
+
+fine : (c : tie.After-enum-told) → let s = c .before .before .before .before .before in judgeDeposit (s .args .accounts .now) (s .args .counters .now) (s .args .member) (s .args .amount) ≡ Fine
+fine c = sym (c .before .before .judge-deposit .ensures) ∙ c .enum-told .given .1
+
+accepted : (c : tie.After-enum-told) → let s = c .before .before .before .before .before in Deposits (s .args .accounts .now) (s .args .counters .now) (s .args .member) (s .args .amount)
+accepted c = deposit-fine _ _ _ _ (fine c)
+
+judge-deposit-requires : tie.Need-judge-deposit-requires
+judge-deposit-requires c κs = search needs
+
+enum-known-j : tie.Need-enum-known-j
+enum-known-j c = search needs
+
+enum-told : tie.Need-enum-told
+enum-told c = search needs
+
+sub-credit : tie.Need-sub-credit
+sub-credit c = accepted (c .before) .one
+
+credit-requires : tie.Need-credit-requires
+credit-requires c κs =
+    let d = accepted (c .before) in
+    let h = c .before .before .before .before .before .before .pre .holds in
+    (holds-bounded h, (omega (arith, h .few), d .small))
+
+same-length : tie.Need-same-length
+same-length c = search needs
+
+returns : tie.Need-returns
+returns c =
+    let s = c .before .before .before .before .before .before in
+    (sym (ap (answerDeposit (s .args .accounts .now) (s .args .member) (s .args .amount)) (sym (c .before .before .before .judge-deposit .ensures) ∙ c .before .j .given .1)), refl)
+
+same-length-2 : tie.Need-same-length-2
+same-length-2 c = search needs
+
+returns-2 : tie.Need-returns-2
+returns-2 c =
+    let s = c .before .before .before .before .before .before .before .before in
+    let r = c .before .credit .ok in
+    let e = c .before .credit .ensures in
+    let a = answerDeposit (s .args .accounts .now) (s .args .member) (s .args .amount) in
+    (simp plain (ap Done (e .0) ∙ sym (ap a (fine (c .before .before .before)))), e .1)
+
+pub deposit-spec : {M : Type 1} → statement M
+deposit-spec =
+    tie.close
+    (tie.spec
+    judge-deposit-requires
+    enum-known-j
+    enum-told
+    sub-credit
+    credit-requires
+    same-length
+    returns
+    same-length-2
+    returns-2)

@@ -1,0 +1,98 @@
+-- `entry::submit::judge_submit` meets its contract: no loop; each test that was passed gives one part of the judgement.
+use borrow.Author.Needs.{needs}
+use borrow.Author.Tests.{lt-leb, le-leb, eq-eqb, ne-eqb}
+use mathlib.Core.Bool.{true, false, cond}
+use mathlib.Core.Path.{_≡_}
+use native.Mathlib.Omega.{arith}
+use lib.Dec.{eqb, leb}
+use Rattle.tables.proofs.Tests.{flag-no, flag-yes}
+use Rattle.tables.specs.Layout.{waitingOf}
+use Rattle.tables.specs.Sizes.{places}
+use Rattle.answers.specs.Codes.{isMember, isAmount}
+use Rattle.answers.specs.declared.Refusal.the-variants.{Full}
+use Rattle.answers.specs.declared.Judged.the-variants.{Fine, Bad}
+use Rattle.answers.proofs.Judging.{member-in}
+use Rattle.entry.specs.Submit.{isNext, judgeSubmit}
+use Rattle.entry.proofs.submit.judge_submit.Statement.{statement}
+use Rattle.entry.proofs.submit.judge_submit.Tie as tie
+
+payer : (c : tie.Else1) → isMember (c .before .before .before .args .counters .now) (c .before .before .before .args .payer) ≡ true
+payer c = flag-yes (c .before .is-member .ensures) (c .if1 .left)
+
+payee : (c : tie.Else2) → isMember (c .before .before .before .before .before .args .counters .now) (c .before .before .before .before .before .args .payee) ≡ true
+payee c = flag-yes (c .before .is-member2 .ensures) (c .if2 .left)
+
+apart : (c : tie.Else3) → eqb (c .before .before .before .before .before .before .args .payer) (c .before .before .before .before .before .before .args .payee) ≡ false
+apart c = ne-eqb (c .before .before .before .before .before .before .args .payer) (c .before .before .before .before .before .before .args .payee) (c .if3 .left)
+
+amount : (c : tie.Else4) → isAmount (c .before .before .before .before .before .before .before .before .args .amount) ≡ true
+amount c = flag-yes (c .before .is-amount .ensures) (c .if4 .left)
+
+next : (c : tie.Else5) → let s = c .before .before .before .before .before .before .before .before .before .before in isNext (s .args .counters .now) (s .args .payer) (s .args .number) ≡ true
+next c = flag-yes (c .before .is-next .ensures) (c .if5 .left)
+
+read : (c : tie.After-wide) → c .wide .result ≡ waitingOf (c .before .before .before .before .before .before .before .before .before .before .before .before .args .counters .now)
+read c = c .wide .ensures
+
+-- what is left to test at last
+left : (c : tie.Else5) → let s = c .before .before .before .before .before .before .before .before .before .before .args in judgeSubmit (s .counters .now) (s .payer) (s .number) (s .payee) (s .amount) ≡ cond (leb places (waitingOf (s .counters .now))) (Bad Full) Fine
+left c = rw (payer (c .before .before .before .before .before .before .before), payee (c .before .before .before .before .before), apart (c .before .before .before .before), amount (c .before .before), next c)
+
+is-member-requires : tie.Need-is-member-requires
+is-member-requires c κs = search needs
+
+returns : tie.Need-returns
+returns c = rw (flag-no (c .before .is-member .ensures) (c .if1 .taken))
+
+is-member-requires-2 : tie.Need-is-member-requires-2
+is-member-requires-2 c κs = search needs
+
+returns-2 : tie.Need-returns-2
+returns-2 c = rw (payer (c .before .before), flag-no (c .before .is-member2 .ensures) (c .if2 .taken))
+
+returns-3 : tie.Need-returns-3
+returns-3 c = rw (payer (c .before .before .before), payee (c .before), eq-eqb (c .before .before .before .before .before .before .args .payer) (c .before .before .before .before .before .before .args .payee) (c .if3 .taken))
+
+is-amount-requires : tie.Need-is-amount-requires
+is-amount-requires c κs = search needs
+
+returns-4 : tie.Need-returns-4
+returns-4 c = rw (payer (c .before .before .before .before .before), payee (c .before .before .before), apart (c .before .before), flag-no (c .before .is-amount .ensures) (c .if4 .taken))
+
+is-next-requires : tie.Need-is-next-requires
+is-next-requires c κs =
+    let s = c .before .before .before .before .before .before .before .before in
+    let m = member-in (s .args .counters .now) (s .args .payer) (payer (c .before .before .before .before .before)) in (s .pre .0, m .0, omega arith)
+
+returns-5 : tie.Need-returns-5
+returns-5 c = rw (payer (c .before .before .before .before .before .before .before), payee (c .before .before .before .before .before), apart (c .before .before .before .before), amount (c .before .before), flag-no (c .before .is-next .ensures) (c .if5 .taken))
+
+shared-slice-read-wide : tie.Need-shared-slice-read-wide
+shared-slice-read-wide c = search needs
+
+wide-requires : tie.Need-wide-requires
+wide-requires c κs = search needs
+
+returns-6 : tie.Need-returns-6
+returns-6 c = let u = read (c .before) in rw (left (c .before .before .before), le-leb places (waitingOf (c .before .before .before .before .before .before .before .before .before .before .before .before .before .args .counters .now)) (omega arith))
+
+returns-7 : tie.Need-returns-7
+returns-7 c = let u = read (c .before) in rw (left (c .before .before .before), lt-leb places (waitingOf (c .before .before .before .before .before .before .before .before .before .before .before .before .before .args .counters .now)) (omega arith))
+
+pub judge-submit-spec : {M : Type 1} → statement M
+judge-submit-spec =
+    tie.close
+    (tie.spec
+    is-member-requires
+    returns
+    is-member-requires-2
+    returns-2
+    returns-3
+    is-amount-requires
+    returns-4
+    is-next-requires
+    returns-5
+    shared-slice-read-wide
+    wide-requires
+    returns-6
+    returns-7)

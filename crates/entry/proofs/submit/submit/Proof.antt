@@ -1,0 +1,81 @@
+-- `entry::submit::submit` meets its contract: no loop; a judgement that found nothing gives what the three steps ask.
+use borrow.Author.Needs.{needs}
+use mathlib.Core.Path.{_≡_, refl, sym, ap, _∙_}
+use Prim.Native.Nat.{_-_}
+use native.Mathlib.Omega.{arith}
+use Rattle.rule.specs.Payment.{word}
+use Rattle.tables.specs.Layout.{waitingOf}
+use Rattle.answers.specs.declared.Judged.the-variants.{Fine}
+use Rattle.entry.specs.Submit.{judgeSubmit, answerSubmit}
+use Rattle.entry.proofs.Judging.{Submits, submit-fine}
+use Rattle.entry.proofs.submit.submit.Statement.{statement}
+use Rattle.entry.proofs.submit.submit.Tie as tie
+
+fine : (c : tie.After-enum-told) → let s = c .before .before .before .before .before .before in judgeSubmit (s .args .counters .now) (s .args .payer) (s .args .number) (s .args .payee) (s .args .amount) ≡ Fine
+fine c = sym (c .before .before .judge-submit .ensures) ∙ c .enum-told .given .1
+
+accepted : (c : tie.After-enum-told) → let s = c .before .before .before .before .before .before in Submits (s .args .counters .now) (s .args .payer) (s .args .number) (s .args .payee) (s .args .amount)
+accepted c = submit-fine _ _ _ _ _ (fine c)
+
+read : (c : tie.After-wide) → c .wide .result ≡ waitingOf (c .before .before .before .before .before .before .before .before .args .counters .now)
+read c = c .wide .ensures
+
+judge-submit-requires : tie.Need-judge-submit-requires
+judge-submit-requires c κs = search needs
+
+enum-known-j : tie.Need-enum-known-j
+enum-known-j c = search needs
+
+enum-told : tie.Need-enum-told
+enum-told c = search needs
+
+slice-read-wide : tie.Need-slice-read-wide
+slice-read-wide c = search needs
+
+wide-requires : tie.Need-wide-requires
+wide-requires c κs = search needs
+
+payment-requires : tie.Need-payment-requires
+payment-requires c κs = let k = accepted (c .before .before .before) in let f = c .before .before .before .before .before .before .before .before .before .pre .holds .few in (k .one, omega arith, k .to, omega arith, k .small)
+
+append-requires : tie.Need-append-requires
+append-requires c κs = let u = read (c .before .before) in omega (arith, accepted (c .before .before .before .before) .room, c .before .before .before .before .before .before .before .before .before .before .pre .holds .deep)
+
+accept-requires : tie.Need-accept-requires
+accept-requires c κs = let k = accepted (c .before .before .before .before .before .before .before .before) in let h = c .before .before .before .before .before .before .before .before .before .before .before .before .before .before .pre .holds in (h .broad, k .one, omega (arith, k .within, h .few), k .room, k .fits)
+
+same-length : tie.Need-same-length
+same-length c = search needs
+
+returns : tie.Need-returns
+returns c = (sym (ap answerSubmit (sym (c .before .before .before .judge-submit .ensures) ∙ c .before .j .given .1)), (refl, refl))
+
+same-length-2 : tie.Need-same-length-2
+same-length-2 c = search needs
+
+same-length-3 : tie.Need-same-length-3
+same-length-3 c = search needs
+
+returns-2 : tie.Need-returns-2
+returns-2 c =
+    let s = c .before .before .before .before .before .before .before .before .before .before .before .before .before .before .before .before .before in
+    let w : c .before .before .before .before .before .before .before .payment .result ≡ word (s .args .payer - 1) (s .args .payee - 1) (s .args .amount) = c .before .before .before .before .before .before .before .payment .ensures in
+    (sym (ap answerSubmit (fine (c .before .before .before .before .before .before .before .before .before .before .before))), (c .before .before .accept .ensures, rw (read (c .before .before .before .before .before .before .before .before .before), w) at (c .before .before .before .before .before .before .append .ensures)))
+
+pub submit-spec : {M : Type 1} → statement M
+submit-spec =
+    tie.close
+    (tie.spec
+    judge-submit-requires
+    enum-known-j
+    enum-told
+    slice-read-wide
+    wide-requires
+    payment-requires
+    append-requires
+    accept-requires
+    same-length
+    returns
+    same-length-2
+    same-length-3
+    returns-2)

@@ -1,0 +1,2 @@
+pub mod Deposit
+pub mod Submit

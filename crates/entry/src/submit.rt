@@ -1,0 +1,107 @@
+// A submission, on tables that hold a state. It settles nothing.
+use answers::Judged;
+use answers::Refusal;
+use answers::Submitted;
+use answers::judge::is_amount;
+use answers::judge::is_member;
+use tables::House;
+use tables::steps::wide;
+ghost use mathlib.Core.Path.{_≡_};
+ghost use mathlib.Core.Bool.{cond};
+ghost use Prim.Native.Nat.{_+_, _-_, _<_, _≤_};
+ghost use lib.ListN.{length, set};
+ghost use Rattle.rule.specs.Payment.{word};
+ghost use Rattle.tables.specs.Sizes.{limit};
+ghost use Rattle.tables.specs.Layout.{waitingOf, countOf};
+ghost use Rattle.tables.specs.Holds.{Queues};
+ghost use Rattle.entry.specs.Submit.{isNext, judgeSubmit, heldSubmit, isSubmitted, countersSubmitted, paysSubmitted};
+
+// A payment at the tail of its payer's queue.
+pub fn submit(
+    counters: &mut [u32],
+    pays: &mut [u64],
+    payer: u64,
+    number: u64,
+    payee: u64,
+    amount: u64,
+) -> Submitted
+    requires { ⌜ Queues (now counters) (now pays) ⌝ }
+    ensures { λ r. ⌜ r ≡ heldSubmit (now (counters .entry)) payer number payee amount ⌝ }
+    ensures { λ r. ⌜ now (counters .exit) ≡ cond (isSubmitted r) (countersSubmitted (now (counters .entry)) payer number) (now (counters .entry)) ⌝ }
+    ensures { λ r. ⌜ now (pays .exit) ≡ cond (isSubmitted r) (paysSubmitted (now (counters .entry)) (now (pays .entry)) payer payee amount) (now (pays .entry)) ⌝ }
+{
+    let j = judge_submit(counters, payer, number, payee, amount);
+    match j {
+        Judged::Bad(r) => Submitted::Refused(r),
+        Judged::Fine => {
+            let at = wide(counters[1]);
+            append(pays, at, payment(payer, payee, amount));
+            accept(counters, payer, number);
+            Submitted::Done
+        }
+    }
+}
+
+fn judge_submit(counters: &[u32], payer: u64, number: u64, payee: u64, amount: u64) -> Judged
+    requires { ⌜ (512 ≤ length (now counters)) × (countOf (now counters) ≤ 64) ⌝ }
+    ensures { λ r. ⌜ r ≡ judgeSubmit (now (counters .entry)) payer number payee amount ⌝ }
+{
+    if !is_member(counters, payer) {
+        return Judged::Bad(Refusal::Member);
+    }
+    if !is_member(counters, payee) {
+        return Judged::Bad(Refusal::Member);
+    }
+    if payer == payee {
+        return Judged::Bad(Refusal::Same);
+    }
+    if !is_amount(amount) {
+        return Judged::Bad(Refusal::Amount);
+    }
+    if !is_next(counters, payer, number) {
+        return Judged::Bad(Refusal::Number);
+    }
+    if wide(counters[1]) >= House::PLACES {
+        return Judged::Bad(Refusal::Full);
+    }
+    Judged::Fine
+}
+
+// The number is the one that the payer gives next.
+fn is_next(counters: &[u32], payer: u64, number: u64) -> bool
+    requires { ⌜ (512 ≤ length (now counters)) × (1 ≤ payer) × (payer ≤ 64) ⌝ }
+    ensures { λ r. ⌜ r ≡ isNext (now (counters .entry)) payer number ⌝ }
+{
+    let seat = (payer - 1) as usize;
+    let last = wide(counters[64 + seat]) as u64;
+    if number != last + 1 {
+        return false;
+    }
+    number <= House::LAST_NUMBER
+}
+
+// The word of a payment.
+fn payment(payer: u64, payee: u64, amount: u64) -> u64
+    requires { ⌜ (1 ≤ payer) × (payer ≤ 64) × (1 ≤ payee) × (payee ≤ 64) × (amount ≤ limit) ⌝ }
+    ensures { λ r. ⌜ r ≡ word (payer - 1) (payee - 1) amount ⌝ }
+{
+    amount * 65536 + (payer - 1) * 64 + (payee - 1)
+}
+
+// One more waits, and the payer's last number is the one given.
+fn accept(counters: &mut [u32], payer: u64, number: u64)
+    requires { ⌜ (512 ≤ length (now counters)) × (1 ≤ payer) × (payer ≤ 64) × (waitingOf (now counters) < 2048) × (number ≤ 4294967295) ⌝ }
+    ensures { λ _. ⌜ now (counters .exit) ≡ set (set (now (counters .entry)) 1 (waitingOf (now (counters .entry)) + 1)) (64 + (payer - 1)) number ⌝ }
+{
+    let seat = (payer - 1) as usize;
+    counters[1] += 1;
+    counters[64 + seat] = number as u32;
+}
+
+// The payment stands in its place.
+fn append(pays: &mut [u64], at: usize, payment: u64)
+    requires { ⌜ at < length (now pays) ⌝ }
+    ensures { λ _. ⌜ now (pays .exit) ≡ set (now (pays .entry)) at payment ⌝ }
+{
+    pays[at] = payment;
+}

@@ -1,0 +1,86 @@
+-- `settling::try_book` meets its contract: no loop; the test of the positions is the rule's, of each member.
+use borrow.Author.Needs.{needs}
+use mathlib.Core.Path.{refl, sym, ap₂, _∙_}
+use Rattle.tables.specs.Layout.{countOf, houseOf}
+use Rattle.tables.proofs.Tests.{flag-no, flag-yes}
+use Rattle.booking.specs.Booking.{listed}
+use Rattle.booking.proofs.Covering.{covered-is}
+use Rattle.answers.specs.declared.Grouped.the-variants.{Done}
+use Rattle.settling.proofs.Settles.{refused-answer, booked-answer, tally-members}
+use Rattle.settling.proofs.try_book.Statement.{statement}
+use Rattle.settling.proofs.try_book.Tie as tie
+
+weigh-requires : tie.Need-weigh-requires
+weigh-requires c κs = search needs
+
+slice-aggregate-covered : tie.Need-slice-aggregate-covered
+slice-aggregate-covered c = search needs
+
+covered-requires : tie.Need-covered-requires
+covered-requires c κs = (record { pays = c .before .before .before .before .before .before .before .before .before .before .args .pays .now; holds = c .before .before .before .before .before .before .before .before .before .before .pre .holds }, c .before .before .before .weigh .ensures .members)
+
+same-length : tie.Need-same-length
+same-length c = search needs
+
+same-length-2 : tie.Need-same-length-2
+same-length-2 c = search needs
+
+same-length-3 : tie.Need-same-length-3
+same-length-3 c = search needs
+
+returns : tie.Need-returns
+returns c =
+    let s = c .before .before .before .before .before .before .before .before .before .before .before .before in
+    let e = sym (covered-is (s .pre .holds) (c .before .before .before .before .before .weigh .ensures)) ∙ flag-no (c .before .covered .ensures) (c .if1 .taken) in
+    (refused-answer (countOf (s .args .counters .now)) (houseOf (s .args .accounts .now) (s .args .counters .now) (s .args .pays .now)) (listed (s .args .counts .now)) e, (refl, (refl, refl)))
+
+slice-aggregate-book : tie.Need-slice-aggregate-book
+slice-aggregate-book c = search needs
+
+book-requires : tie.Need-book-requires
+book-requires c κs = search needs
+
+tally-requires : tie.Need-tally-requires
+tally-requires c κs = search needs
+
+cast-t32 : tie.Need-cast-t32
+cast-t32 c = search needs
+
+same-length-4 : tie.Need-same-length-4
+same-length-4 c = search needs
+
+same-length-5 : tie.Need-same-length-5
+same-length-5 c = search needs
+
+same-length-6 : tie.Need-same-length-6
+same-length-6 c = search needs
+
+returns-2 : tie.Need-returns-2
+returns-2 c =
+    let s = c .before .before .before .before .before .before .before .before .before .before .before .before .before .before .before .before .before .before .before .before .before .before .before in
+    let b = c .before .before .before .before .before .before .book .ensures in
+    let e = sym (covered-is (s .pre .holds) (c .before .before .before .before .before .before .before .before .before .before .before .before .before .before .before .before .weigh .ensures)) ∙ flag-yes (c .before .before .before .before .before .before .before .before .before .before .before .before .covered .ensures) (c .before .before .before .before .before .before .before .before .before .before .before .if1 .left) in (
+      ap₂ Done (c .tally .ensures ∙ tally-members (s .pre)) (b .1 .1 .1)
+          ∙ booked-answer (countOf (s .args .counters .now)) (houseOf (s .args .accounts .now) (s .args .counters .now) (s .args .pays .now)) (listed (s .args .counts .now)) e,
+      (b .0, (b .1 .0, b .1 .1 .0)),
+    )
+
+pub try-book-spec : {M : Type 1} → statement M
+try-book-spec =
+    tie.close
+    (tie.spec
+    weigh-requires
+    slice-aggregate-covered
+    covered-requires
+    same-length
+    same-length-2
+    same-length-3
+    returns
+    slice-aggregate-book
+    book-requires
+    tally-requires
+    cast-t32
+    same-length-4
+    same-length-5
+    same-length-6
+    returns-2)
