@@ -43,7 +43,7 @@ fn judge_deposit(accounts: &[i64], counters: &[u32], member: u64, amount: u64) -
     if !is_amount(amount) {
         return Judged::Bad(Refusal::Amount);
     }
-    let sum = plus(total(accounts), signed(amount));
+    let sum = plus(total(accounts, House::MEMBERS), signed(amount));
     if !at_most(sum, signed(House::MOST)) {
         return Judged::Bad(Refusal::Money);
     }
@@ -52,7 +52,7 @@ fn judge_deposit(accounts: &[i64], counters: &[u32], member: u64, amount: u64) -
 
 // Adds the amount to one balance, and answers the new one.
 fn credit(accounts: &mut [i64], seat: usize, amount: u64) -> i64
-    requires { ⌜ Bounded (now accounts) ⌝ }
+    requires { ⌜ Bounded 64 (now accounts) ⌝ }
     requires { ⌜ (seat < 64) × (amount ≤ limit) ⌝ }
     ensures { λ r. ⌜ r ≡ balanceOf (now (accounts .entry)) seat +ℤ pos amount ⌝ }
     ensures { λ r. ⌜ now (accounts .exit) ≡ set (now (accounts .entry)) seat (balanceOf (now (accounts .entry)) seat +ℤ pos amount) ⌝ }

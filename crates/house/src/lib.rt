@@ -28,7 +28,7 @@ pub fn open(
             opening::fill_accounts(accounts, n, balances, lines);
             opening::fill_counters(counters, n);
             opening::fill_pays(pays);
-            Opened::Done(opening::total(balances))
+            Opened::Done(tables::look::total(balances, n))
         }
     }
 }

@@ -389,7 +389,7 @@ pub fn end_line(accounts: &[i64], counters: &[u32], pays: &[u64], k: u64) -> Say
         let left = counters[64 + i] - counters[128 + i];
         return Says::Balance(k + 1, accounts[i], left as u64);
     }
-    Says::Money(tables::look::total(accounts))
+    Says::Money(tables::look::total(accounts, House::MEMBERS))
 }
 
 // The stage behind it.

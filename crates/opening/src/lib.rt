@@ -3,17 +3,15 @@ use answers::Judged;
 use answers::Refusal;
 use tables::House;
 use tables::look::holder_ok;
+use tables::look::total;
 use tables::steps::at_most;
 use tables::steps::signed;
 ghost use mathlib.Core.Path.{_≡_};
-ghost use Prim.Native.Nat.{ℕ, _≤_, _<_};
+ghost use Prim.Native.Nat.{_≤_};
 ghost use lib.ListN.{length};
 ghost use Rattle.rule.specs.Lists.{fill};
-ghost use Rattle.rule.specs.House.{money};
-ghost use Rattle.tables.specs.Sizes.{highest};
 ghost use Rattle.tables.specs.State.{every};
-ghost use Rattle.tables.specs.Needs.{Near};
-ghost use Rattle.opening.specs.Open.{entry, opensAt, isOpening, judgeOpen, accountOpened, counterOpened};
+ghost use Rattle.opening.specs.Open.{opensAt, isOpening, judgeOpen, accountOpened, counterOpened};
 
 // Codes 1 and 11.
 pub fn judge(
@@ -60,7 +58,7 @@ fn is_opening(count: u64, balances: &[i64], lines: &[i64]) -> bool
     if !holders_ok(balances, lines) {
         return false;
     }
-    at_most(total(balances), signed(House::MOST))
+    at_most(total(balances, balances.len()), signed(House::MOST))
 }
 
 // Each member's balance and line are in order.
@@ -76,21 +74,6 @@ fn holders_ok(balances: &[i64], lines: &[i64]) -> bool
         i += 1;
     }
     true
-}
-
-// The sum of the opening balances.
-pub fn total(balances: &[i64]) -> i64
-    requires { ⌜ length (now balances) ≤ 64 ⌝ }
-    requires { ⌜ ((i : ℕ) → i < length (now balances) → Near highest (entry (now balances) i)) ⌝ }
-    ensures { λ r. ⌜ r ≡ money (length (now (balances .entry))) (entry (now (balances .entry))) ⌝ }
-{
-    let mut sum: i64 = 0;
-    let mut i = 0;
-    while i < balances.len() {
-        sum = sum + balances[i];
-        i += 1;
-    }
-    sum
 }
 
 // The balances and the lines, and 0 elsewhere.

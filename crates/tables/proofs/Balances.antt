@@ -54,8 +54,8 @@ near-account true b l e = near-holder b l e
 near-account false b l e = near-zero b (and-both (isZero b) (isZero l) e .0)
 
 -- where each account is in order, no balance is further from zero than the highest
-pub accounts-bounded : (n : ℕ) (a : List ℤ) → 512 ≤ length a → every (accountAt n a) members ≡ true → Bounded a
-accounts-bounded n a h e = record { long = h; near = λ i q. near-account (ltb i n) (balanceOf a i) (lineOf a i) (every-at (accountAt n a) members i e q) }
+pub accounts-bounded : (n : ℕ) (a : List ℤ) → 512 ≤ length a → every (accountAt n a) members ≡ true → Bounded members a
+accounts-bounded n a h e = record { few = omega arith; long = omega arith; near = λ i q. near-account (ltb i n) (balanceOf a i) (lineOf a i) (every-at (accountAt n a) members i e q) }
 
 -- ---- and so are their sums
 
@@ -67,13 +67,9 @@ module _ (n : ℕ) (b : ℕ → ℤ) (near : (i : ℕ) → i < n → Near highes
       let t = near i h in
       near-of (suc i * highest) (money (suc i) b) (omega (arith, plus (money i b) (b i))) (omega (arith, plus (money i b) (b i)))
 
-  -- the sum of the first balances, of at most 64, fits an i64
-  pub near-fits : n ≤ 64 → (i : ℕ) → i ≤ n → SFits w64 (money i b)
-  near-fits l i h = let s = near-sum i h in omega ints
-
--- as it does for the balances of a state
-pub sum-fits : {a : List ℤ} → Bounded a → (i : ℕ) → i ≤ 64 → SFits w64 (money i (balanceOf a))
-sum-fits {a} b = near-fits 64 (balanceOf a) (b .near) (omega arith)
+-- the sum of the first of bounded balances fits an i64
+pub sum-fits : {n : ℕ} {a : List ℤ} → Bounded n a → (i : ℕ) → i ≤ n → SFits w64 (money i (balanceOf a))
+sum-fits {n} {a} b i h = let s = near-sum n (balanceOf a) (b .near) i h in omega (ints, b .few)
 
 -- ---- one balance, by the sum of all
 

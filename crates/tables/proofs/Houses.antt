@@ -55,8 +55,8 @@ module _ {a : List ℤ} {c p : List ℕ} (h : Holds a c p) where
   -- ---- money
 
   -- no balance is far from zero,
-  pub holds-bounded : Bounded a
-  holds-bounded = record { long = h .long; near = holds-near h }
+  pub holds-bounded : Bounded 64 a
+  holds-bounded = record { few = omega arith; long = omega (arith, h .long); near = holds-near h }
 
   -- and the sum of all fits an i64
   pub money-fits : SFits w64 (moneyOf a)

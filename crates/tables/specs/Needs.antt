@@ -12,7 +12,8 @@ pub record Near (m : ℕ) (z : ℤ) : Type 0 where
   pub above : up z ≤ m
   pub below : down z ≤ m
 
--- no balance is further from zero than the highest, so that none of their sums can wrap
-pub record Bounded (a : List ℤ) : Type 0 where
-  pub long : 512 ≤ length a
-  pub near : (i : ℕ) → i < 64 → Near highest (balanceOf a i)
+-- of the first n balances, at most 64, none is further from zero than the highest, so that none of their sums can wrap
+pub record Bounded (n : ℕ) (a : List ℤ) : Type 0 where
+  pub few : n ≤ 64
+  pub long : n ≤ length a
+  pub near : (i : ℕ) → i < n → Near highest (balanceOf a i)

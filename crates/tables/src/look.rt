@@ -7,8 +7,9 @@ use crate::steps::wide;
 ghost use mathlib.Core.Path.{_≡_};
 ghost use Prim.Native.Nat.{ℕ, _+_, _<_, _≤_};
 ghost use lib.ListN.{length, getD, take};
+ghost use Rattle.rule.specs.House.{money};
 ghost use Rattle.rule.specs.Table.{queueOf};
-ghost use Rattle.tables.specs.Layout.{waitingOf, moneyOf};
+ghost use Rattle.tables.specs.Layout.{waitingOf, balanceOf};
 ghost use Rattle.tables.specs.State.{every, wordOk, isZero, holderOk, accountOk, accountAt, spareAt, accountsOk, zeroAt, countersOk, placeOk, placesOk, queueOk, queuesOk, isState};
 ghost use Rattle.tables.specs.Needs.{Bounded};
 
@@ -41,15 +42,15 @@ pub fn is_state(accounts: &[i64], counters: &[u32], pays: &[u64]) -> bool
 
 // ---- accounts
 
-// The sum of all balances.
-pub fn total(accounts: &[i64]) -> i64
-    requires { ⌜ Bounded (now accounts) ⌝ }
-    ensures { λ r. ⌜ r ≡ moneyOf (now (accounts .entry)) ⌝ }
+// The sum of the first n balances.
+pub fn total(balances: &[i64], n: usize) -> i64
+    requires { ⌜ Bounded n (now balances) ⌝ }
+    ensures { λ r. ⌜ r ≡ money n (balanceOf (now (balances .entry))) ⌝ }
 {
     let mut sum: i64 = 0;
     let mut i = 0;
-    while i < House::MEMBERS {
-        sum = sum + accounts[i];
+    while i < n {
+        sum = sum + balances[i];
         i += 1;
     }
     sum
@@ -66,7 +67,7 @@ fn accounts_ok(accounts: &[i64], n: usize) -> bool
     if !spare_ok(accounts) {
         return false;
     }
-    at_most(total(accounts), signed(House::MOST))
+    at_most(total(accounts, House::MEMBERS), signed(House::MOST))
 }
 
 fn seats_ok(accounts: &[i64], n: usize) -> bool

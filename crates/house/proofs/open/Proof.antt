@@ -39,7 +39,7 @@ fill-pays-requires c κs = accepted (c .before .before .before .before .before .
 total-requires : tie.Need-total-requires
 total-requires c κs =
     let o = accepted (c .before .before .before .before .before .before .before .before .before .before .before) .opening in
-    (omega (arith, o .few, o .balances), λ i h. near-holder _ (entry (c .before .before .before .before .before .before .before .before .before .before .before .before .before .before .before .before .before .before .before .args .lines .now) i) (o .holders i (omega (arith, o .balances))))
+    record { few = omega (arith, o .few); long = omega (arith, o .balances); near = λ i h. near-holder _ (entry (c .before .before .before .before .before .before .before .before .before .before .before .before .before .before .before .before .before .before .before .args .lines .now) i) (o .holders i h) }
 
 same-length : tie.Need-same-length
 same-length c = search needs
@@ -66,7 +66,7 @@ returns-2 : tie.Need-returns-2
 returns-2 c =
     let s = c .before .before .before .before .before .before .before .before .before .before .before .before .before .before .before .before .before .before .before .before in
     let r = c .total .ok in
-    let e : c .total .result ≡ money (s .args .count) (entry (s .args .balances .now)) = rw (accepted (c .before .before .before .before .before .before .before .before .before .before .before .before) .opening .balances) at (c .total .ensures) in
+    let e : c .total .result ≡ money (s .args .count) (entry (s .args .balances .now)) = c .total .ensures in
     record {
       answer = simp plain (ap Done e ∙ sym (ap (answerOpen (s .args .count) (s .args .balances .now)) (fine (c .before .before .before .before .before .before .before .before .before .before .before .before))));
       accounts = c .before .before .before .before .before .before .before .before .before .before .fill-accounts .ensures;

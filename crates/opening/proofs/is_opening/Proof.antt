@@ -54,7 +54,11 @@ total-requires : tie.Need-total-requires
 total-requires c κs =
     let s = c .before .before .before .before .before .before in
     let e = flag-yes (c .before .holders-ok .ensures) (c .if5 .left) in
-    (omega arith, λ i h. near-holder _ (entry (s .args .lines .now) i) (every-at (opensAt (s .args .balances .now) (s .args .lines .now)) (length (s .args .balances .now)) i e h))
+    record {
+      few = omega arith;
+      long = omega arith;
+      near = λ i h. near-holder _ (entry (s .args .lines .now) i) (every-at (opensAt (s .args .balances .now) (s .args .lines .now)) (length (s .args .balances .now)) i e h);
+    }
 
 signed-requires : tie.Need-signed-requires
 signed-requires c κs = search needs

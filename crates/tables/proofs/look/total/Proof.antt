@@ -15,10 +15,10 @@ use Rattle.tables.proofs.look.total.Statement.{statement}
 use Rattle.tables.proofs.look.total.Tie as tie
 
 abbrev Inv-loop : tie.InvT-loop
-Inv-loop accounts sum₀ i₀ sum i = (i ≤ 64) × (toZ w64 sum ≡ money i (balanceOf accounts))
+Inv-loop balances n sum₀ i₀ sum i = (i ≤ n) × (toZ w64 sum ≡ money i (balanceOf balances))
 
 abbrev μ-loop : tie.MeasureT-loop
-μ-loop accounts sum₀ i₀ sum i = 64 - i
+μ-loop balances n sum₀ i₀ sum i = n - i
 
 loop-holds : tie.Need-loop-holds Inv-loop μ-loop
 loop-holds c = (omega arith, refl)
@@ -30,7 +30,7 @@ shared-slice-copy-out-sum : tie.Need-shared-slice-copy-out-sum Inv-loop μ-loop
 shared-slice-copy-out-sum c = search needs
 
 -- the sum so far with one balance more
-fits : (c : tie.After-sum Inv-loop μ-loop) → SFits w64 (money (c .before .before .loop .i) (balanceOf (c .before .before .before .args .accounts .now)) +ℤ balanceOf (c .before .before .before .args .accounts .now) (c .before .before .loop .i))
+fits : (c : tie.After-sum Inv-loop μ-loop) → SFits w64 (money (c .before .before .loop .i) (balanceOf (c .before .before .before .args .balances .now)) +ℤ balanceOf (c .before .before .before .args .balances .now) (c .before .before .loop .i))
 fits c = rw add-one at (sum-fits (c .before .before .before .pre) (c .before .before .loop .i + 1) (omega arith))
 
 add-sum : tie.Need-add-sum Inv-loop μ-loop
@@ -49,7 +49,7 @@ loop-again c =
     (omega arith, simp (plain, c .before .before .loop .inv .1) (rw add-one))
 
 returns : tie.Need-returns Inv-loop μ-loop
-returns c = let e : c .before .loop .i ≡ 64 = omega arith in c .before .loop .inv .1 ∙ ap (λ n. money n (balanceOf (c .before .before .args .accounts .now))) e
+returns c = let e : c .before .loop .i ≡ c .before .before .args .n = omega arith in c .before .loop .inv .1 ∙ ap (λ n. money n (balanceOf (c .before .before .args .balances .now))) e
 
 pub total-spec : {M : Type 1} → statement M
 total-spec =
