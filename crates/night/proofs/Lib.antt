@@ -1,7 +1,7 @@
 pub mod Opening
-pub mod Day
+pub mod DayLines
 pub mod Settling
-pub mod Ending
+pub mod EndLines
 pub mod Stages
 pub mod Amounts
 pub mod Kept

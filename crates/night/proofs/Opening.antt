@@ -1,7 +1,7 @@
 -- What the lines of the opening do, case by case.
-use mathlib.Core.Path.{_≡_, _∙_}
+use mathlib.Core.Path.{_≡_, refl, _∙_}
 use mathlib.Core.Bool.{cond}
-use mathlib.Core.List.{List}
+use mathlib.Core.List.{List, [], _∷_}
 use Prim.Native.Nat.{ℕ, _+_, _≤_, _<_, _^_}
 use native.Mathlib.Omega.{arith}
 use borrow.Author.Tests.{lt-leb, le-leb, lt-ltb, le-ltb, eq-eqb, ne-eqb}
@@ -13,6 +13,9 @@ use mir.Syntax.{w64}
 use mir.Val.{toZ, ofZ}
 use mir.Facts.{toZ-ofZ}
 use lib.Signed.{mag}
+use types.Run.{OneOf, miss}
+use denote.Enum.Declared.{tagOf}
+use Rattle.dayfile.proofs.Entry.{the-type}
 use Rattle.rule.proofs.Ints.{held}
 use Rattle.numbers.specs.Numbers.{mostDigits}
 use Rattle.numbers.proofs.Signs.{held-small}
@@ -28,6 +31,18 @@ use Rattle.night.specs.declared.Stage.the-variants as G
 use Rattle.night.specs.declared.Said.the-variants.{One}
 use Rattle.night.specs.declared.Does.{Does}
 use Rattle.night.specs.Lines.{Tables, did, quiet, refusal, stops, houseDoes, given, memberDoes, openSays, openStage, balancesGiven, linesGiven, openDoes}
+
+-- any line but a house line stops the night,
+pub house-other : (n : ℕ) (t : Tables) (e : Entry) → OneOf (1 ∷ 2 ∷ 3 ∷ 4 ∷ 5 ∷ 6 ∷ 7 ∷ 8 ∷ []) (tagOf the-type e) → houseDoes n t e ≡ stops n Line t
+house-other n t (E.House m) k = absurd (miss (1 ∷ 2 ∷ 3 ∷ 4 ∷ 5 ∷ 6 ∷ 7 ∷ 8 ∷ []) 0 tt k)
+house-other n t (E.Member m b l) k = refl
+house-other n t (E.Pay m i q x) k = refl
+house-other n t (E.Deposit m x) k = refl
+house-other n t (E.Release m) k = refl
+house-other n t (E.Group m) k = refl
+house-other n t E.Resolve k = refl
+house-other n t E.End k = refl
+house-other n t E.Bad k = refl
 
 module _ (n : ℕ) (t : Tables) (e : Entry) (count : ℕ) (q : e ≡ E.House count) where
   -- a count of 0 stops the night,
@@ -45,6 +60,18 @@ module _ (n : ℕ) (t : Tables) (e : Entry) (count : ℕ) (q : e ≡ E.House cou
 -- what was stored is what was given
 pub give-did : (a a₁ : List ℤ) (k : ℕ) (b : ℤ) (l : ℕ) → natAbs b < 10 ^ mostDigits → a₁ ≡ set (set a k (toZ w64 (ofZ w64 b))) (64 + k) (pos l) → a₁ ≡ set (set a k b) (64 + k) (pos l)
 give-did a a₁ k b l h q = q ∙ rw (toZ-ofZ {w = w64} (held-small b h))
+
+-- any line but a member line stops the night,
+pub member-none : (n count k : ℕ) (t : Tables) (e : Entry) → OneOf (0 ∷ 2 ∷ 3 ∷ 4 ∷ 5 ∷ 6 ∷ 7 ∷ 8 ∷ []) (tagOf the-type e) → memberDoes n count k t e ≡ stops n Line t
+member-none n count k t (E.House m) o = refl
+member-none n count k t (E.Member m b l) o = absurd (miss (0 ∷ 2 ∷ 3 ∷ 4 ∷ 5 ∷ 6 ∷ 7 ∷ 8 ∷ []) 1 tt o)
+member-none n count k t (E.Pay m i q x) o = refl
+member-none n count k t (E.Deposit m x) o = refl
+member-none n count k t (E.Release m) o = refl
+member-none n count k t (E.Group m) o = refl
+member-none n count k t E.Resolve o = refl
+member-none n count k t E.End o = refl
+member-none n count k t E.Bad o = refl
 
 module _ (n count k : ℕ) (t : Tables) (e : Entry) (m : ℕ) (b : ℤ) (l : ℕ) (q : e ≡ E.Member m b l) where
   -- any number but the next stops the night,

@@ -1,0 +1,212 @@
+-- `night::day::day_line` meets its contract: no loop; each kind of line is a case.
+use Rattle.night.proofs.Stages.{read-group}
+use Rattle.night.proofs.DayLines.{pay-did, booked-did, deposit-did}
+use Rattle.night.specs.Lines.{tables, largestIn}
+use Rattle.settling.specs.Group.{heldGroup, isGrouped}
+use Rattle.settling.specs.Release.{heldRelease, isReleased, onlyHead}
+use Rattle.booking.specs.Booking.{listed}
+use lib.ListN.{take}
+use mathlib.Core.Bool.{true}
+use borrow.Author.Needs.{needs}
+use Rattle.night.proofs.day.day_line.Statement.{statement}
+use Rattle.night.proofs.day.day_line.Tie as tie
+
+enum-told : tie.Need-enum-told
+enum-told c = search needs
+
+stray-requires : tie.Need-stray-requires
+stray-requires c κs = search needs
+
+enum-told-2 : tie.Need-enum-told-2
+enum-told-2 c = search needs
+
+stray-requires-2 : tie.Need-stray-requires-2
+stray-requires-2 c κs = search needs
+
+enum-known-e : tie.Need-enum-known-e
+enum-known-e c = search needs
+
+pay-requires : tie.Need-pay-requires
+pay-requires c κs = search needs
+
+says-requires : tie.Need-says-requires
+says-requires c κs = search needs
+
+enum-known-e-2 : tie.Need-enum-known-e-2
+enum-known-e-2 c = search needs
+
+deposit-requires : tie.Need-deposit-requires
+deposit-requires c κs = search needs
+
+says-requires-2 : tie.Need-says-requires-2
+says-requires-2 c κs = search needs
+
+enum-known-e-3 : tie.Need-enum-known-e-3
+enum-known-e-3 c = search needs
+
+release-requires : tie.Need-release-requires
+release-requires c κs = search needs
+
+says-requires-3 : tie.Need-says-requires-3
+says-requires-3 c κs = search needs
+
+enum-known-e-4 : tie.Need-enum-known-e-4
+enum-known-e-4 c = search needs
+
+group-requires : tie.Need-group-requires
+group-requires c κs = let g = read-group _ (c .before .before .before .before .e4 .given .1) (c .before .before .before .before .before .before .before .before .before .pre .1) in (c .before .before .before .before .before .before .before .before .before .pre .0, g .0, g .1)
+
+says-requires-4 : tie.Need-says-requires-4
+says-requires-4 c κs = search needs
+
+enum-told-3 : tie.Need-enum-told-3
+enum-told-3 c = search needs
+
+resolve-requires : tie.Need-resolve-requires
+resolve-requires c κs = search needs
+
+says-requires-5 : tie.Need-says-requires-5
+says-requires-5 c κs = search needs
+
+enum-told-4 : tie.Need-enum-told-4
+enum-told-4 c = search needs
+
+quiet-requires : tie.Need-quiet-requires
+quiet-requires c κs = search needs
+
+enum-told-5 : tie.Need-enum-told-5
+enum-told-5 c = search needs
+
+stray-requires-3 : tie.Need-stray-requires-3
+stray-requires-3 c κs = search needs
+
+returns : tie.Need-returns
+returns c = rw (c .stray .ensures, c .before .enum-told .given .1)
+
+returns-2 : tie.Need-returns-2
+returns-2 c = rw (c .stray2 .ensures, c .before .enum-told2 .given .1)
+
+same-length : tie.Need-same-length
+same-length c = search needs
+
+same-length-2 : tie.Need-same-length-2
+same-length-2 c = search needs
+
+returns-3 : tie.Need-returns-3
+returns-3 c =
+    let s = c .before .before .before .before .before .before .before .before .before .before .before .before .before .before .args in
+    let p = c .before .before .before .before .before .pay in
+    pay-did (s .n) (tables (c .before .before .before .before .before .before .before .before .before .before .before .before .before .before .args .accounts .now) (c .before .before .before .before .before .before .before .before .before .before .before .before .before .before .args .counters .now) (c .before .before .before .before .before .before .before .before .before .before .before .before .before .before .args .pays .now)) (s .e) (s .counts .now) (c .says .result) (p .result) (c .says .ensures) _ _ _ _ _ _ (c .before .before .before .before .before .before .before .before .before .e .given .1) (p .ensures .0) (p .ensures .1 .0) (p .ensures .1 .1)
+
+same-length-3 : tie.Need-same-length-3
+same-length-3 c = search needs
+
+same-length-4 : tie.Need-same-length-4
+same-length-4 c = search needs
+
+returns-4 : tie.Need-returns-4
+returns-4 c =
+    let s = c .before .before .before .before .before .before .before .before .before .before .before .args in
+    let p = c .before .before .deposit in
+    deposit-did (s .n) (tables (c .before .before .before .before .before .before .before .before .before .before .before .args .accounts .now) (c .before .before .before .before .before .before .before .before .before .before .before .args .counters .now) (c .before .before .before .before .before .before .before .before .before .before .before .args .pays .now)) (s .e) (s .counts .now) (c .says2 .result) (p .result) (c .says2 .ensures) _ _ _ (c .before .before .before .before .before .before .e2 .given .1) (p .ensures .0) (p .ensures .1)
+
+same-length-5 : tie.Need-same-length-5
+same-length-5 c = search needs
+
+same-length-6 : tie.Need-same-length-6
+same-length-6 c = search needs
+
+same-length-7 : tie.Need-same-length-7
+same-length-7 c = search needs
+
+returns-5 : tie.Need-returns-5
+returns-5 c =
+    let s = c .before .before .before .before .before .before .before .before .before .before .before .before .before .before .before .before .args in
+    let p = c .before .before .before .before .before .before .release in
+    booked-did (s .n) (tables (c .before .before .before .before .before .before .before .before .before .before .before .before .before .before .before .before .args .accounts .now) (c .before .before .before .before .before .before .before .before .before .before .before .before .before .before .before .before .args .counters .now) (c .before .before .before .before .before .before .before .before .before .before .before .before .before .before .before .before .args .pays .now)) (s .e) (s .counts .now) (c .says3 .result) (p .result) (c .says3 .ensures) (onlyHead (c .before .before .before .before .before .before .before .before .before .before .before .e3 .given .0 .0)) (isReleased (heldRelease (s .accounts .now) (s .counters .now) (s .pays .now) (c .before .before .before .before .before .before .before .before .before .before .before .e3 .given .0 .0))) (tables (p .last .0) (p .last .1 .0) (p .last .1 .1 .0)) (p .ensures .1) (rw (c .before .before .before .before .before .before .before .before .before .before .before .e3 .given .1, p .ensures .0))
+
+same-length-8 : tie.Need-same-length-8
+same-length-8 c = search needs
+
+same-length-9 : tie.Need-same-length-9
+same-length-9 c = search needs
+
+same-length-10 : tie.Need-same-length-10
+same-length-10 c = search needs
+
+returns-6 : tie.Need-returns-6
+returns-6 c =
+    let s = c .before .before .before .before .before .before .before .before .before .before .before .before .before .before .before .before .args in
+    let p = c .before .before .before .before .before .before .group in
+    booked-did (s .n) (tables (c .before .before .before .before .before .before .before .before .before .before .before .before .before .before .before .before .args .accounts .now) (c .before .before .before .before .before .before .before .before .before .before .before .before .before .before .before .before .args .counters .now) (c .before .before .before .before .before .before .before .before .before .before .before .before .before .before .before .before .args .pays .now)) (s .e) (s .counts .now) (c .says4 .result) (p .result) (c .says4 .ensures) (listed (take (c .before .before .before .before .before .before .before .before .before .before .before .e4 .given .0 .0) (s .counts .now))) (isGrouped (heldGroup (s .accounts .now) (s .counters .now) (s .pays .now) (take (c .before .before .before .before .before .before .before .before .before .before .before .e4 .given .0 .0) (s .counts .now)))) (tables (p .last .0) (p .last .1 .0) (p .last .1 .1 .0)) (p .ensures .1) (rw (c .before .before .before .before .before .before .before .before .before .before .before .e4 .given .1, p .ensures .0))
+
+same-length-11 : tie.Need-same-length-11
+same-length-11 c = search needs
+
+same-length-12 : tie.Need-same-length-12
+same-length-12 c = search needs
+
+same-length-13 : tie.Need-same-length-13
+same-length-13 c = search needs
+
+returns-7 : tie.Need-returns-7
+returns-7 c =
+    let s = c .before .before .before .before .before .before .before .before .before .before .before .before .before .before .before .args in
+    let p = c .before .before .before .before .before .before .resolve in
+    booked-did (s .n) (tables (c .before .before .before .before .before .before .before .before .before .before .before .before .before .before .before .args .accounts .now) (c .before .before .before .before .before .before .before .before .before .before .before .before .before .before .before .args .counters .now) (c .before .before .before .before .before .before .before .before .before .before .before .before .before .before .before .args .pays .now)) (s .e) (s .counts .now) (c .says5 .result) (p .result) (c .says5 .ensures) (listed (largestIn (tables (c .before .before .before .before .before .before .before .before .before .before .before .before .before .before .before .args .accounts .now) (c .before .before .before .before .before .before .before .before .before .before .before .before .before .before .before .args .counters .now) (c .before .before .before .before .before .before .before .before .before .before .before .before .before .before .before .args .pays .now)))) true (tables (p .last .0) (p .last .1 .0) (p .last .1 .1 .0)) (p .ensures .1) (rw (c .before .before .before .before .before .before .before .before .before .before .enum-told3 .given .1, p .ensures .0))
+
+returns-8 : tie.Need-returns-8
+returns-8 c = rw (c .quiet .ensures, c .before .enum-told4 .given .1)
+
+returns-9 : tie.Need-returns-9
+returns-9 c = rw (c .stray3 .ensures, c .before .enum-told5 .given .1)
+
+pub day-line-spec : {M : Type 1} → statement M
+day-line-spec =
+    tie.close
+    (tie.spec
+    enum-told
+    stray-requires
+    enum-told-2
+    stray-requires-2
+    enum-known-e
+    pay-requires
+    says-requires
+    enum-known-e-2
+    deposit-requires
+    says-requires-2
+    enum-known-e-3
+    release-requires
+    says-requires-3
+    enum-known-e-4
+    group-requires
+    says-requires-4
+    enum-told-3
+    resolve-requires
+    says-requires-5
+    enum-told-4
+    quiet-requires
+    enum-told-5
+    stray-requires-3
+    returns
+    returns-2
+    same-length
+    same-length-2
+    returns-3
+    same-length-3
+    same-length-4
+    returns-4
+    same-length-5
+    same-length-6
+    same-length-7
+    returns-5
+    same-length-8
+    same-length-9
+    same-length-10
+    returns-6
+    same-length-11
+    same-length-12
+    same-length-13
+    returns-7
+    returns-8
+    returns-9)

@@ -1,0 +1,90 @@
+-- `night::day::group` meets its contract: no loop.
+use Rattle.night.proofs.Settling.{booked-after, group-narrowed}
+use Rattle.night.specs.Lines.{tables, groupSays}
+use Rattle.settling.specs.Group.{isGrouped}
+use Rattle.booking.specs.Booking.{listed}
+use lib.ListN.{take, length-take}
+use mathlib.Core.Path.{sym, ap, _∙_}
+use native.Mathlib.Omega.{arith}
+use borrow.Author.Needs.{needs}
+use Rattle.night.proofs.day.group.Statement.{statement}
+use Rattle.night.proofs.day.group.Tie as tie
+
+narrowed-requires : tie.Need-narrowed-requires
+narrowed-requires c κs = search needs
+
+array-share-prefix-k : tie.Need-array-share-prefix-k
+array-share-prefix-k c = search needs
+
+slice-aggregate-group : tie.Need-slice-aggregate-group
+slice-aggregate-group c = simp length-take (omega (arith, c .before .before .before .before .narrowed .ensures .0, c .before .before .before .before .before .before .before .before .pre .1))
+
+group-requires : tie.Need-group-requires
+group-requires c κs = search needs
+
+enum-known-r : tie.Need-enum-known-r
+enum-known-r c = search needs
+
+enum-known-r-2 : tie.Need-enum-known-r-2
+enum-known-r-2 c = search needs
+
+refused-requires : tie.Need-refused-requires
+refused-requires c κs = search needs
+
+same-length : tie.Need-same-length
+same-length c = search needs
+
+same-length-2 : tie.Need-same-length-2
+same-length-2 c = search needs
+
+same-length-3 : tie.Need-same-length-3
+same-length-3 c = search needs
+
+returns : tie.Need-returns
+returns c =
+    let s = c .before .before .before .before .before .before .before .before .before .before .before .before .before .before .before .before .before in
+    let e = c .before .before .before .before .before .before .before .before .group .ensures in
+    let r = c .before .before .before .before .before .before .before .before .before .before .before .before .before .narrowed in
+    let d = group-narrowed (tables (c .before .before .before .before .before .before .before .before .before .before .before .before .before .before .before .before .before .args .accounts .now) (c .before .before .before .before .before .before .before .before .before .before .before .before .before .before .before .before .before .args .counters .now) (c .before .before .before .before .before .before .before .before .before .before .before .before .before .before .before .before .before .args .pays .now)) (s .pre .0) (s .args .m) (s .args .counts .now) (r .result) (s .pre .1) (s .pre .2) (r .ensures .0) (r .ensures .1) in (
+      ap (groupSays (s .args .n)) (sym (c .before .r .given .1) ∙ e .0 ∙ d .0),
+      booked-after (tables (c .before .before .before .before .before .before .before .before .before .before .before .before .before .before .before .before .before .args .accounts .now) (c .before .before .before .before .before .before .before .before .before .before .before .before .before .before .before .before .before .args .counters .now) (c .before .before .before .before .before .before .before .before .before .before .before .before .before .before .before .before .before .args .pays .now)) (listed (take (s .args .m) (r .result))) _ _ _ _ _ (ap isGrouped (e .0)) (e .1 .0) (e .1 .1 .0) (e .1 .1 .1) ∙ d .1,
+    )
+
+same-length-4 : tie.Need-same-length-4
+same-length-4 c = search needs
+
+same-length-5 : tie.Need-same-length-5
+same-length-5 c = search needs
+
+same-length-6 : tie.Need-same-length-6
+same-length-6 c = search needs
+
+returns-2 : tie.Need-returns-2
+returns-2 c =
+    let s = c .before .before .before .before .before .before .before .before .before .before .before .before .before .before .before .before .before .before in
+    let e = c .before .before .before .before .before .before .before .before .before .group .ensures in
+    let r = c .before .before .before .before .before .before .before .before .before .before .before .before .before .before .narrowed in
+    let d = group-narrowed (tables (c .before .before .before .before .before .before .before .before .before .before .before .before .before .before .before .before .before .before .args .accounts .now) (c .before .before .before .before .before .before .before .before .before .before .before .before .before .before .before .before .before .before .args .counters .now) (c .before .before .before .before .before .before .before .before .before .before .before .before .before .before .before .before .before .before .args .pays .now)) (s .pre .0) (s .args .m) (s .args .counts .now) (r .result) (s .pre .1) (s .pre .2) (r .ensures .0) (r .ensures .1) in (
+      c .refused .ensures ∙ ap (groupSays (s .args .n)) (sym (c .before .before .r2 .given .1) ∙ e .0 ∙ d .0),
+      booked-after (tables (c .before .before .before .before .before .before .before .before .before .before .before .before .before .before .before .before .before .before .args .accounts .now) (c .before .before .before .before .before .before .before .before .before .before .before .before .before .before .before .before .before .before .args .counters .now) (c .before .before .before .before .before .before .before .before .before .before .before .before .before .before .before .before .before .before .args .pays .now)) (listed (take (s .args .m) (r .result))) _ _ _ _ _ (ap isGrouped (e .0)) (e .1 .0) (e .1 .1 .0) (e .1 .1 .1) ∙ d .1,
+    )
+
+pub group-spec : {M : Type 1} → statement M
+group-spec =
+    tie.close
+    (tie.spec
+    narrowed-requires
+    array-share-prefix-k
+    slice-aggregate-group
+    group-requires
+    enum-known-r
+    enum-known-r-2
+    refused-requires
+    same-length
+    same-length-2
+    same-length-3
+    returns
+    same-length-4
+    same-length-5
+    same-length-6
+    returns-2)
