@@ -1,3 +1,4 @@
+pub mod Stopping
 pub mod Writing
 pub mod Steps
 pub mod Endings

@@ -1,2 +1,3 @@
 pub mod Sheet
 pub mod Feeding
+pub mod Stops
