@@ -1,7 +1,8 @@
 pub mod Stopping
+pub mod Futures
 pub mod Writing
 pub mod Steps
 pub mod Endings
-pub mod Turns
-pub mod Closing
+pub mod Desks
+pub mod Unique
 pub mod Theorem

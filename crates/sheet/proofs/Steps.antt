@@ -1,7 +1,7 @@
--- The night after a line, as the code holds it: the line is taken, refused as one too many, or not read since the night is over.
-use mathlib.Core.Path.{_≡_, refl, sym, ap, _∙_}
-use mathlib.Core.Bool.{true, false, false≢true}
-use mathlib.Core.List.{List, [], _++_, append-assoc, append-nil}
+-- The night once a line is answered, as the code holds it: the line is taken, or refused as one too many.
+use mathlib.Core.Path.{_≡_, refl, ap, _∙_}
+use mathlib.Core.Bool.{false}
+use mathlib.Core.List.{List, _++_}
 use Prim.Native.Nat.{ℕ, _+_, _≤_, _<_}
 use native.Mathlib.Omega.{arith}
 use borrow.Author.Tests.{lt-ltb, le-ltb}
@@ -18,63 +18,39 @@ use Rattle.night.specs.Stands.{Stands, Read}
 use Rattle.night.proofs.Stages.{does-same}
 use Rattle.night.proofs.Kept.{Kept, does-kept}
 use Rattle.sheet.specs.declared.State.{State}
-use Rattle.sheet.specs.Sheet.{mostLines, Night, saidText, restText, told, isOver, entryIn, countsIn, after, stepOf}
-use Rattle.sheet.specs.Feeding.{nightOf, stateAt, isEnding, Fit}
+use Rattle.sheet.specs.Sheet.{mostLines, Night, saidText, isOver, entryIn, countsIn, after, stopped, answered}
+use Rattle.sheet.specs.Feeding.{nightOf, stateAt, Fit}
 use Rattle.sheet.proofs.Writing.{read-small}
 
--- ---- stages
-
-pub rest-none : (g : Stage) (t : Tables) → isEnding g ≡ false → restText g t ≡ []
-rest-none G.House t e = refl
-rest-none (G.Members count k) t e = refl
-rest-none G.Day t e = refl
-rest-none (G.Ending k) t e = absurd (false≢true (sym e))
-rest-none G.Over t e = refl
-
-pub told-same : (g : Stage) → isEnding g ≡ false → told g ≡ g
-told-same G.House e = refl
-told-same (G.Members count k) e = refl
-told-same G.Day e = refl
-told-same (G.Ending k) e = absurd (false≢true (sym e))
-told-same G.Over e = refl
-
-over-is : (g : Stage) → isOver g ≡ true → g ≡ G.Over
-over-is G.House e = absurd (false≢true e)
-over-is (G.Members count k) e = absurd (false≢true e)
-over-is G.Day e = absurd (false≢true e)
-over-is (G.Ending k) e = absurd (false≢true e)
-over-is G.Over e = refl
-
--- ---- what the line did
-
+-- what the line did suits the stage behind it
 pub did-kept : (n : ℕ) (g : Stage) (t : Tables) (e : Entry) (vs : List ℕ) (r : Does) (u : Tables) → n ≤ mostLines → ((i : ℕ) → getD (t .counters) i 0 < 4294967296) → Stands g t
     → did r (u .accounts) (u .counters) (u .pays) ≡ doesOf n g t e vs → Kept (did r (u .accounts) (u .counters) (u .pays))
 did-kept n g t e vs r u few w s q = rw q (does-kept n (omega arith) g t e vs w s)
 
-module _ (s : State) (t : Tables) (out : List ℕ) (quiet : isEnding (s .stage) ≡ false) where
+module _ (s : State) (t : Tables) (out : List ℕ) where
   pub taken : (e : Entry) (vs : List ℕ) (r : Does) (u : Tables) (used : ℕ) (out₁ : List ℕ)
       → did r (u .accounts) (u .counters) (u .pays) ≡ doesOf (s .lines + 1) (s .stage) t e vs
       → take used out₁ ≡ take (s .used) out ++ saidText (r .said)
       → nightOf (stateAt (s .lines + 1) (r .stage) used) u out₁ ≡ after (nightOf s t out) (doesOf (s .lines + 1) (s .stage) t e vs)
-  taken e vs r u used out₁ q f = rw (← q, f, rest-none (s .stage) t quiet, append-nil) (rw append-assoc)
+  taken e vs r u used out₁ q f = rw (← q, f)
 
-  pub step-over : (l : Line) → isOver (s .stage) ≡ true → nightOf (stateAt (s .lines) G.Over (s .used)) t out ≡ stepOf (nightOf s t out) l
-  step-over l e = rw (over-is (s .stage) e)
+  -- a refusal that stops the night
+  pub stopped-at : (n : ℕ) (r : State) (out₁ : List ℕ) → r ≡ stateAt (s .lines) G.Over (r .used)
+      → take (r .used) out₁ ≡ take (s .used) out ++ textOf (refusal n R.Line) → nightOf r t out₁ ≡ stopped n (nightOf s t out)
+  stopped-at n r out₁ q f = ap (λ (x : State). nightOf x t out₁) q ∙ rw f
 
   module _ (l : Line) (on : isOver (s .stage) ≡ false) where
-    pub step-taken : (e : Entry) (vs : List ℕ) (d : Night) → s .lines < mostLines → e ≡ entryIn l → take (length (countsIn l)) vs ≡ countsIn l
-        → d ≡ after (nightOf s t out) (doesOf (s .lines + 1) (s .stage) t e vs) → d ≡ stepOf (nightOf s t out) l
-    step-taken e vs d few q k f =
+    pub answered-taken : (e : Entry) (vs : List ℕ) (d : Night) → s .lines < mostLines → e ≡ entryIn l → take (length (countsIn l)) vs ≡ countsIn l
+        → d ≡ after (nightOf s t out) (doesOf (s .lines + 1) (s .stage) t e vs) → d ≡ answered (nightOf s t out) l
+    answered-taken e vs d few q k f =
         let r : Read e vs = record { numbers = countsIn l; small = read-small l q; left = k } in
         let w = does-same (s .lines + 1) (s .stage) t r in
         let z = ap (λ (x : Entry). doesOf (s .lines + 1) (s .stage) t x (countsIn l)) q in
-        f ∙ rw (told-same (s .stage) quiet, on, lt-ltb (s .lines) mostLines few) (ap (after (nightOf s t out)) (w ∙ z))
+        f ∙ rw (on, lt-ltb (s .lines) mostLines few) (ap (after (nightOf s t out)) (w ∙ z))
 
-    pub step-stopped : (r : State) (out₁ : List ℕ) → mostLines ≤ s .lines → r ≡ stateAt (s .lines) G.Over (r .used)
-        → take (r .used) out₁ ≡ take (s .used) out ++ textOf (refusal (s .lines + 1) R.Line) → nightOf r t out₁ ≡ stepOf (nightOf s t out) l
-    step-stopped r out₁ many q f =
-        ap (λ (x : State). nightOf x t out₁) q
-        ∙ rw (told-same (s .stage) quiet, on, le-ltb (s .lines) mostLines many, f, rest-none (s .stage) t quiet, append-nil, append-nil)
+    pub answered-stopped : (r : State) (out₁ : List ℕ) → mostLines ≤ s .lines → r ≡ stateAt (s .lines) G.Over (r .used)
+        → take (r .used) out₁ ≡ take (s .used) out ++ textOf (refusal (s .lines + 1) R.Line) → nightOf r t out₁ ≡ answered (nightOf s t out) l
+    answered-stopped r out₁ many q f = rw (on, le-ltb (s .lines) mostLines many) (stopped-at (s .lines + 1) r out₁ q f)
 
 pub fit-over : (s : State) (t : Tables) (n : ℕ) (r : State) → Fit s t n → r ≡ stateAt (s .lines) G.Over (r .used) → r .used ≤ n → Fit r t n
 fit-over s t n r f q l = record { few = rw q (f .few); room = l; held = rw q (omega arith); stands = rw q tt }

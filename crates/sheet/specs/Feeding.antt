@@ -1,31 +1,29 @@
--- The night as the code holds it between two chunks: numbers by value, and lent lists.
-use mathlib.Core.Bool.{Bool, true, false, cond}
-use mathlib.Core.List.{List, _++_}
-use Prim.Native.Nat.{ℕ, _+_, _-_, _*_, _≤_}
+-- The night as the code holds it between two turns: numbers by value, and lent lists.
+use mathlib.Core.Path.{_≡_}
+use mathlib.Core.Bool.{Bool, false, not, _&&_}
+use mathlib.Core.List.{List}
+use Prim.Native.Nat.{ℕ, _+_, _-_, _≤_}
 use lib.Dec.{ltb}
-use lib.ListN.{take}
+use lib.ListN.{take, drop}
 use Rattle.cut.specs.Lines.{mostBytes}
 use Rattle.cut.specs.declared.Cut.{Cut}
-use Rattle.cut.specs.Chunks.{Fed, stateOf, finish}
+use Rattle.cut.specs.Chunks.{stateOf}
 use Rattle.night.specs.declared.Stage.{Stage}
 use Rattle.night.specs.declared.Stage.the-variants as G
 use Rattle.night.specs.Lines.{Tables}
 use Rattle.night.specs.Stands.{Stands}
 use Rattle.sheet.specs.declared.State.{State}
 use Rattle.sheet.specs.declared.Turn.{Turn}
-use Rattle.sheet.specs.Sheet.{mostLines, Night, restText, told, stepOf, closed}
+use Rattle.sheet.specs.Sheet.{mostLines, Night, isOver}
+use Rattle.sheet.specs.Turns.{Desk, hasRoom, isOn}
 
--- the night that a state, the tables and the lent output hold; what the end has still to say counts as said
+-- the night that a state, the tables and the lent output hold
 abbrev pub nightOf : State → Tables → List ℕ → Night
-nightOf s t out = record { lines = s .lines; stage = told (s .stage); tables = t; sheet = take (s .used) out ++ restText (s .stage) t }
+nightOf s t out = record { lines = s .lines; stage = s .stage; tables = t; sheet = take (s .used) out }
 
--- with what the lent buffer holds of the next line
-abbrev pub fedOf : State → Tables → List ℕ → List ℕ → Fed Night
-fedOf s t out buf = record { day = nightOf s t out; held = stateOf buf (s .cut) }
-
--- the sheet if the input ends here
-abbrev pub closedOf : Fed Night → List ℕ
-closedOf f = closed (finish stepOf f)
+-- with the bytes to come, and what the lent buffer holds of the next line
+abbrev pub deskOf : List ℕ → State → Tables → List ℕ → List ℕ → Desk
+deskOf rest s t out buf = record { rest = rest; night = nightOf s t out; held = stateOf buf (s .cut) }
 
 -- no line begun
 abbrev pub fresh : Cut
@@ -39,37 +37,26 @@ stateAt n g u = record { lines = n; stage = g; used = u; cut = fresh }
 abbrev pub dawn : State
 dawn = stateAt 0 G.House 0
 
--- lines of the end are still to be written
-abbrev pub isEnding : Stage → Bool
-isEnding G.House = false
-isEnding (G.Members count k) = false
-isEnding G.Day = false
-isEnding (G.Ending k) = true
-isEnding G.Over = false
+-- whether it goes on at a place of a chunk of n bytes, with so many bytes of output,
+abbrev pub goesAt : ℕ → ℕ → Turn → Bool
+goesAt n room t = hasRoom room (t .state .used) && isOn (t .state .stage) (ltb (t .at) n)
 
--- at most how many, of which there are at most 65
-abbrev pub linesLeft : Stage → ℕ
-linesLeft G.House = 0
-linesLeft (G.Members count k) = 0
-linesLeft G.Day = 0
-linesLeft (G.Ending k) = 66 - k
-linesLeft G.Over = 0
+-- and at the end of the input
+abbrev pub closesAt : ℕ → State → Bool
+closesAt room s = hasRoom room (s .used) && not (isOver (s .stage))
 
--- bytes are left of a chunk of n, or lines of the end
-abbrev pub moreOf : ℕ → ℕ → Stage → Bool
-moreOf at n g = cond (ltb at n) true (isEnding g)
-
--- at most how many turns are left
-abbrev pub leftOf : ℕ → Turn → ℕ
-leftOf n t = (n - t .at) * 70 + linesLeft (t .state .stage)
-
--- at most how many turns are left at the end of the input, with some bytes held
+-- at most how many turns are left, where there are n bytes: the end has at most 65 lines
 abbrev pub turnsLeft : Stage → ℕ → ℕ
-turnsLeft G.House held = 100 + held
-turnsLeft (G.Members count k) held = 100 + held
-turnsLeft G.Day held = 100 + held
-turnsLeft (G.Ending k) held = 66 - k
-turnsLeft G.Over held = 0
+turnsLeft G.House n = 100 + n
+turnsLeft (G.Members count k) n = 100 + n
+turnsLeft G.Day n = 100 + n
+turnsLeft (G.Ending k) n = 66 - k
+turnsLeft G.Over n = 0
+
+-- bytes were written behind the first u of the output, up to v, and none behind those
+pub record Grown (u v : ℕ) (out out₁ : List ℕ) : Type 0 where
+  pub on : u ≤ v
+  pub rest : drop v out₁ ≡ drop v out
 
 -- a state that suits its tables, with n bytes of output
 pub record Fit (s : State) (t : Tables) (n : ℕ) : Type 0 where

@@ -1,3 +1,4 @@
 pub mod Sheet
-pub mod Feeding
 pub mod Stops
+pub mod Turns
+pub mod Feeding

@@ -40,12 +40,12 @@ saidText D.Nothing = []
 saidText (D.One s) = textOf s
 
 -- what a stage has still to say: at `end`, the lines behind the first k
-abbrev pub restText : Stage → Tables → List ℕ
-restText G.House t = []
-restText (G.Members count k) t = []
-restText G.Day t = []
-restText (G.Ending k) t = textsOf (drop k (endSays t))
-restText G.Over t = []
+abbrev pub restSays : Stage → Tables → List Says
+restSays G.House t = []
+restSays (G.Members count k) t = []
+restSays G.Day t = []
+restSays (G.Ending k) t = drop k (endSays t)
+restSays G.Over t = []
 
 -- the stage once that is said
 abbrev pub told : Stage → Stage
@@ -54,6 +54,18 @@ told (G.Members count k) = G.Members count k
 told G.Day = G.Day
 told (G.Ending k) = G.Over
 told G.Over = G.Over
+
+-- the night once that is said
+abbrev pub finished : Night → Night
+finished d = record { lines = d .lines; stage = told (d .stage); tables = d .tables; sheet = d .sheet ++ textsOf (restSays (d .stage) (d .tables)) }
+
+-- lines of the end are still to be said
+abbrev pub isEnding : Stage → Bool
+isEnding G.House = false
+isEnding (G.Members count k) = false
+isEnding G.Day = false
+isEnding (G.Ending k) = true
+isEnding G.Over = false
 
 abbrev pub isOver : Stage → Bool
 isOver G.House = false
@@ -73,33 +85,31 @@ countsIn long = []
 
 -- the night after a line that did r
 abbrev pub after : Night → Did → Night
-after d r =
-    record {
-      lines = d .lines + 1;
-      stage = told (r .stage);
-      tables = r .after;
-      sheet = d .sheet ++ (saidText (r .said) ++ restText (r .stage) (r .after));
-    }
+after d r = record { lines = d .lines + 1; stage = r .stage; tables = r .after; sheet = d .sheet ++ saidText (r .said) }
 
--- a line past the most: it is refused, and the night stops
-abbrev pub stopped : Night → Night
-stopped d = record { lines = d .lines; stage = G.Over; tables = d .tables; sheet = d .sheet ++ textOf (refusal (d .lines + 1) R.Line) }
+-- bad line n: it is refused, and the night stops
+abbrev pub stopped : ℕ → Night → Night
+stopped n d = record { lines = d .lines; stage = G.Over; tables = d .tables; sheet = d .sheet ++ textOf (refusal n R.Line) }
 
--- the night after a line; once it is over, nothing is read
-abbrev pub stepOf : Night → Line → Night
-stepOf d l =
+-- the night once a line is answered; a line past the most stops it, and once it is over nothing is read
+abbrev pub answered : Night → Line → Night
+answered d l =
     cond (isOver (d .stage)) d
     (cond (ltb (d .lines) mostLines)
     (after d (doesOf (d .lines + 1) (d .stage) (d .tables) (entryIn l) (countsIn l)))
-    (stopped d))
+    (stopped (d .lines + 1) d))
+
+-- the night after a line and all that is to be said then
+abbrev pub stepOf : Night → Line → Night
+stepOf d l = finished (answered d l)
 
 -- before the first line: empty tables
 abbrev pub morning : Night
 morning = record { lines = 0; stage = G.House; tables = tables (replicate 512 (pos 0)) (replicate 512 0) (replicate 2048 0); sheet = [] }
 
--- the sheet at the end of the input: a night that is not over is refused
+-- the sheet at the end of the input: a night that is not over is refused, as line 0
 abbrev pub closed : Night → List ℕ
-closed d = d .sheet ++ cond (isOver (d .stage)) [] (textOf (refusal 0 R.Line))
+closed d = cond (isOver (d .stage)) d (stopped 0 d) .sheet
 
 -- the sheet of a file
 abbrev pub sheetOf : List ℕ → List ℕ

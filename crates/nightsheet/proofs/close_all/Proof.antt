@@ -1,7 +1,7 @@
 -- `nightsheet::close_all` meets its contract. The invariant: the night suits its tables, with the memory as it was lent.
 use Rattle.nightsheet.proofs.Runs.{fit-flushed}
 use Rattle.nightsheet.specs.Sizes.{outBytes, Lent}
-use Rattle.sheet.proofs.Turns.{fit-at}
+use Rattle.sheet.proofs.Desks.{fit-at}
 use Rattle.sheet.specs.Feeding.{Fit}
 use Rattle.night.specs.Lines.{tables}
 use lib.ListN.{length}

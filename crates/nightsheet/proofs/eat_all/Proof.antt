@@ -2,7 +2,7 @@
 use Prim.Native.Nat.{_≤_}
 use Rattle.nightsheet.proofs.Runs.{fit-flushed}
 use Rattle.nightsheet.specs.Sizes.{outBytes, Lent}
-use Rattle.sheet.proofs.Turns.{fit-at}
+use Rattle.sheet.proofs.Desks.{fit-at}
 use Rattle.sheet.specs.Feeding.{Fit}
 use Rattle.night.specs.Lines.{tables}
 use lib.ListN.{length}
@@ -25,10 +25,10 @@ feed-requires : tie.Need-feed-requires Inv-loop μ-loop
 feed-requires c κs = let g = c .before .before .before .before .before .before .before .before .loop .inv in (fit-at _ (sym (g .0 .long)) (g .1), (g .0 .slots, g .0 .line, g .2))
 
 is-full-requires : tie.Need-is-full-requires Inv-loop μ-loop
-is-full-requires c κs = let g = c .before .before .before .before .before .before .before .before .before .before .before .before .before .before .before .before .before .before .before .before .before .loop .inv in omega (arith, c .before .before .before .before .before .before .before .before .before .before .before .before .feed .ensures .1 .0 .0 .room, g .0 .long)
+is-full-requires c κs = let g = c .before .before .before .before .before .before .before .before .before .before .before .before .before .before .before .before .before .before .before .before .before .loop .inv in omega (arith, c .before .before .before .before .before .before .before .before .before .before .before .before .feed .ensures .1 .0 .room, g .0 .long)
 
 write-out-requires : tie.Need-write-out-requires Inv-loop μ-loop
-write-out-requires c κs = let g = c .before .before .before .before .before .before .before .before .before .before .before .before .before .before .before .before .before .before .before .before .before .before .before .loop .inv in (omega (arith, c .before .before .before .before .before .before .before .before .before .before .before .before .before .before .feed .kept, g .0 .long), omega (arith, c .before .before .before .before .before .before .before .before .before .before .before .before .before .before .feed .ensures .1 .0 .0 .room, g .0 .long))
+write-out-requires c κs = let g = c .before .before .before .before .before .before .before .before .before .before .before .before .before .before .before .before .before .before .before .before .before .before .before .loop .inv in (omega (arith, c .before .before .before .before .before .before .before .before .before .before .before .before .before .before .feed .kept, g .0 .long), omega (arith, c .before .before .before .before .before .before .before .before .before .before .before .before .before .before .feed .ensures .1 .0 .room, g .0 .long))
 
 same-length : tie.Need-same-length Inv-loop μ-loop
 same-length c = omega (arith, c .before .before .before .before .before .before .before .before .before .before .before .before .before .before .before .before .before .feed .kept, c .before .before .before .before .before .before .before .before .before .before .before .before .before .before .before .before .before .before .before .before .before .before .before .before .before .before .loop .inv .0 .line, c .before .before .before .before .before .before .before .before .before .before .before .before .before .before .before .before .before .before .before .before .before .before .before .before .before .before .before .before .before .before .before .before .before .pre .0 .line)
@@ -49,7 +49,7 @@ same-length-6 : tie.Need-same-length-6 Inv-loop μ-loop
 same-length-6 c = omega (arith, c .before .before .before .before .before .before .before .before .before .before .before .before .before .before .before .before .before .feed .kept, c .before .before .before .before .before .before .before .before .before .before .before .before .before .before .before .before .before .before .before .before .before .before .before .before .before .before .loop .inv .0 .long, c .before .before .before .before .before .before .before .before .before .before .before .before .before .before .before .before .before .before .before .before .before .before .before .before .before .before .before .before .before .before .before .before .before .pre .0 .long)
 
 returns : tie.Need-returns Inv-loop μ-loop
-returns c = fit-flushed _ (c .before .before .write-out .ensures) (fit-at _ (c .before .before .before .before .before .before .before .before .before .before .before .before .before .before .before .before .before .before .before .before .before .before .before .before .before .before .loop .inv .0 .long) (c .before .before .before .before .before .before .before .before .before .before .before .before .before .before .before .before .before .feed .ensures .1 .0 .0))
+returns c = fit-flushed _ (c .before .before .write-out .ensures) (fit-at _ (c .before .before .before .before .before .before .before .before .before .before .before .before .before .before .before .before .before .before .before .before .before .before .before .before .before .before .loop .inv .0 .long) (c .before .before .before .before .before .before .before .before .before .before .before .before .before .before .before .before .before .feed .ensures .1 .0))
 
 same-length-7 : tie.Need-same-length-7 Inv-loop μ-loop
 same-length-7 c = omega (arith, c .before .before .before .before .before .before .before .before .before .before .before .before .before .before .before .before .before .before .feed .kept, c .before .before .before .before .before .before .before .before .before .before .before .before .before .before .before .before .before .before .before .before .before .before .before .before .before .before .before .loop .inv .0 .line, c .before .before .before .before .before .before .before .before .before .before .before .before .before .before .before .before .before .before .before .before .before .before .before .before .before .before .before .before .before .before .before .before .before .before .pre .0 .line)
@@ -70,7 +70,7 @@ same-length-12 : tie.Need-same-length-12 Inv-loop μ-loop
 same-length-12 c = omega (arith, c .before .before .before .before .before .before .before .before .before .before .before .before .before .before .before .before .before .before .feed .kept, c .before .before .before .before .before .before .before .before .before .before .before .before .before .before .before .before .before .before .before .before .before .before .before .before .before .before .before .loop .inv .0 .long, c .before .before .before .before .before .before .before .before .before .before .before .before .before .before .before .before .before .before .before .before .before .before .before .before .before .before .before .before .before .before .before .before .before .before .pre .0 .long)
 
 returns-2 : tie.Need-returns-2 Inv-loop μ-loop
-returns-2 c = fit-flushed _ (c .before .before .before .write-out .ensures) (fit-at _ (c .before .before .before .before .before .before .before .before .before .before .before .before .before .before .before .before .before .before .before .before .before .before .before .before .before .before .before .loop .inv .0 .long) (c .before .before .before .before .before .before .before .before .before .before .before .before .before .before .before .before .before .before .feed .ensures .1 .0 .0))
+returns-2 c = fit-flushed _ (c .before .before .before .write-out .ensures) (fit-at _ (c .before .before .before .before .before .before .before .before .before .before .before .before .before .before .before .before .before .before .before .before .before .before .before .before .before .before .before .loop .inv .0 .long) (c .before .before .before .before .before .before .before .before .before .before .before .before .before .before .before .before .before .before .feed .ensures .1 .0))
 
 sub-turns : tie.Need-sub-turns Inv-loop μ-loop
 sub-turns c = omega (arith, c .before .before .before .before .before .before .before .before .before .before .before .before .before .before .before .before .before .before .before .before .before .before .before .before .before .before .loop-test)
@@ -83,8 +83,8 @@ loop-again c =
     let g = c .before .before .before .before .before .before .before .before .before .before .before .before .before .before .before .before .before .before .before .before .before .before .before .before .before .before .before .loop .inv in
     let r = c .before .before .before .before .before .before .before .before .before .before .before .before .before .before .before .before .before .before .feed in (
       record { line = omega (arith, r .kept, g .0 .line); slots = omega (arith, r .kept, g .0 .slots); long = omega (arith, r .kept, g .0 .long) },
-      fit-flushed _ (c .before .before .before .write-out .ensures) (fit-at _ (g .0 .long) (r .ensures .1 .0 .0)),
-      r .ensures .1 .0 .1,
+      fit-flushed _ (c .before .before .before .write-out .ensures) (fit-at _ (g .0 .long) (r .ensures .1 .0)),
+      r .ensures .1 .1,
       omega (arith, r .kept, g .3),
       omega (arith, r .kept, g .4),
       omega (arith, r .kept, g .5),

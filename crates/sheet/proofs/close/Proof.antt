@@ -1,83 +1,69 @@
--- `sheet::close` meets its contract. The invariant: the sheet if the input ends here is what it was at first.
-use Rattle.sheet.proofs.Closing.{Closing}
-use Rattle.sheet.proofs.Turns.{fit-at}
-use Rattle.sheet.specs.Feeding.{fedOf, closedOf, turnsLeft}
+-- `sheet::close` meets its contract. The invariant: turns led here, and before each of them it went on.
+use Rattle.sheet.proofs.Desks.{fit-at, closes-at, Going}
+use Rattle.sheet.proofs.Writing.{grown-none, grown-more}
+use Rattle.sheet.proofs.Stopping.{runs-none, runs-next}
+use Rattle.sheet.specs.Turns.{closeTurn, closesOn}
+use Rattle.sheet.specs.Feeding.{deskOf, turnsLeft, Grown}
 use Rattle.night.specs.Lines.{tables}
 use lib.ListN.{length}
-use borrow.Author.Tests.{not-true, not-false}
-use native.Mathlib.Omega.{arith}
+use mathlib.Core.List.{[]}
 use mathlib.Core.Path.{_≡_, refl, sym, _∙_}
+use native.Mathlib.Omega.{arith}
 use Rattle.sheet.proofs.close.Statement.{statement}
 use Rattle.sheet.proofs.close.Tie as tie
 
 abbrev Inv-loop : tie.InvT-loop
 Inv-loop buf counts₀ accounts₀ counters₀ pays₀ out₀ t₀ counts accounts counters pays out t =
-    Closing buf counts out (tables accounts counters pays) t (length out₀) (closedOf (fedOf t₀ (tables accounts₀ counters₀ pays₀) out₀ buf))
-    × (length accounts ≡ length accounts₀) × (length counters ≡ length counters₀) × (length pays ≡ length pays₀)
+    Going closeTurn (closesOn (length out₀)) (deskOf [] t₀ (tables accounts₀ counters₀ pays₀) out₀ buf) (length out₀) [] buf counts out (tables accounts counters pays) t
+    × Grown (t₀ .used) (t .used) out₀ out × (length accounts ≡ length accounts₀) × (length counters ≡ length counters₀) × (length pays ≡ length pays₀)
 
 abbrev μ-loop : tie.MeasureT-loop
-μ-loop buf counts₀ accounts₀ counters₀ pays₀ out₀ t₀ counts accounts counters pays out t = turnsLeft (t .stage) (t .cut .held)
+μ-loop buf counts₀ accounts₀ counters₀ pays₀ out₀ t₀ counts accounts counters pays out t =
+    turnsLeft (t .stage) (t .cut .held)
 
 loop-holds : tie.Need-loop-holds Inv-loop μ-loop
-loop-holds c = (record { fit = c .before .before .before .before .before .pre .0; slots = c .before .before .before .before .before .pre .1; long = refl; same = refl }, refl, refl, refl)
+loop-holds c = let s = c .before .before .before .before .before in (record { fit = s .pre .0; line = s .pre .2; slots = s .pre .1; long = refl; run = runs-none _ }, grown-none _ _, refl, refl, refl)
 
-is-open-requires : tie.Need-is-open-requires Inv-loop μ-loop
-is-open-requires c κs = tt
-
-sub-if2 : tie.Need-sub-if2 Inv-loop μ-loop
-sub-if2 c = omega (arith, c .before .before .before .loop .inv .0 .fit .room, c .before .before .before .loop .inv .0 .long)
-
-same-length : tie.Need-same-length Inv-loop μ-loop
-same-length c = c .before .before .before .before .loop .inv .0 .slots ∙ sym (c .before .before .before .before .before .before .before .before .before .before .pre .1)
-
-same-length-2 : tie.Need-same-length-2 Inv-loop μ-loop
-same-length-2 c = c .before .before .before .before .loop .inv .1
-
-same-length-3 : tie.Need-same-length-3 Inv-loop μ-loop
-same-length-3 c = c .before .before .before .before .loop .inv .2
-
-same-length-4 : tie.Need-same-length-4 Inv-loop μ-loop
-same-length-4 c = c .before .before .before .before .loop .inv .3
-
-same-length-5 : tie.Need-same-length-5 Inv-loop μ-loop
-same-length-5 c = c .before .before .before .before .loop .inv .0 .long
-
-returns : tie.Need-returns Inv-loop μ-loop
-returns c = let g = c .before .before .before .before .loop .inv .0 in (g .same, (g .fit, λ h. absurd (omega (arith, h, g .fit .room, g .long, c .if2 .taken))))
+closes-on-requires : tie.Need-closes-on-requires Inv-loop μ-loop
+closes-on-requires c κs = let g = c .loop .inv .0 in omega (arith, g .fit .room, g .long)
 
 close-on-requires : tie.Need-close-on-requires Inv-loop μ-loop
-close-on-requires c κs = let g = c .before .before .before .before .before .before .before .before .before .loop .inv .0 in (fit-at _ (sym (g .long)) (g .fit), g .slots, c .before .before .before .before .before .before .before .before .before .before .before .before .before .before .before .pre .2, omega (arith, g .fit .room, g .long, c .before .before .before .before .before .if2 .left), not-true _ (sym (c .before .before .before .before .before .before .before .before .is-open .ensures) ∙ c .before .before .before .before .before .before .before .if1 .taken))
+close-on-requires c κs = let g = c .before .before .before .before .before .before .before .loop .inv .0 in (fit-at _ (sym (g .long)) (g .fit), g .slots, g .line, sym (c .before .before .before .before .before .before .closes-on .ensures) ∙ c .before .before .before .before .before .if1 .taken)
 
 loop-less : tie.Need-loop-less Inv-loop μ-loop
 loop-less c = c .before .before .before .before .before .before .before .before .before .close-on .ensures .1 .1
 
 loop-again : tie.Need-loop-again Inv-loop μ-loop
 loop-again c =
-    let g = c .before .before .before .before .before .before .before .before .before .before .before .before .before .before .before .before .before .before .before .loop .inv in
-    let r = c .before .before .before .before .before .before .before .before .before .close-on in (
-      record { fit = fit-at _ (g .0 .long) (r .ensures .1 .0); slots = omega (arith, r .kept, g .0 .slots); long = omega (arith, r .kept, g .0 .long); same = r .ensures .0 ∙ g .0 .same },
-      omega (arith, r .kept, g .1),
+    let g = c .before .before .before .before .before .before .before .before .before .before .before .before .before .before .before .before .before .loop .inv in
+    let r = c .before .before .before .before .before .before .before .before .before .close-on in
+    let e = sym (c .before .before .before .before .before .before .before .before .before .before .before .before .before .before .before .before .closes-on .ensures) ∙ c .before .before .before .before .before .before .before .before .before .before .before .before .before .before .before .if1 .taken in (
+      record { fit = fit-at _ (g .0 .long) (r .ensures .1 .0); line = g .0 .line; slots = omega (arith, r .kept, g .0 .slots); long = omega (arith, r .kept, g .0 .long); run = runs-next _ (g .0 .run) (closes-at (g .0) e) (r .ensures .0) },
+      grown-more (g .1) (r .ensures .1 .2),
       omega (arith, r .kept, g .2),
       omega (arith, r .kept, g .3),
+      omega (arith, r .kept, g .4),
     )
 
-same-length-6 : tie.Need-same-length-6 Inv-loop μ-loop
-same-length-6 c = c .before .before .loop .inv .0 .slots ∙ sym (c .before .before .before .before .before .before .before .before .pre .1)
+same-length : tie.Need-same-length Inv-loop μ-loop
+same-length c = c .before .before .loop .inv .0 .slots ∙ sym (c .before .before .before .before .before .before .before .before .pre .1)
 
-same-length-7 : tie.Need-same-length-7 Inv-loop μ-loop
-same-length-7 c = c .before .before .loop .inv .1
+same-length-2 : tie.Need-same-length-2 Inv-loop μ-loop
+same-length-2 c = c .before .before .loop .inv .2
 
-same-length-8 : tie.Need-same-length-8 Inv-loop μ-loop
-same-length-8 c = c .before .before .loop .inv .2
+same-length-3 : tie.Need-same-length-3 Inv-loop μ-loop
+same-length-3 c = c .before .before .loop .inv .3
 
-same-length-9 : tie.Need-same-length-9 Inv-loop μ-loop
-same-length-9 c = c .before .before .loop .inv .3
+same-length-4 : tie.Need-same-length-4 Inv-loop μ-loop
+same-length-4 c = c .before .before .loop .inv .4
 
-same-length-10 : tie.Need-same-length-10 Inv-loop μ-loop
-same-length-10 c = c .before .before .loop .inv .0 .long
+same-length-5 : tie.Need-same-length-5 Inv-loop μ-loop
+same-length-5 c = c .before .before .loop .inv .0 .long
 
-returns-2 : tie.Need-returns-2 Inv-loop μ-loop
-returns-2 c = let g = c .before .before .loop .inv .0 in (g .same, (g .fit, λ h. not-false _ (sym (c .before .is-open .ensures) ∙ c .if1 .left)))
+returns : tie.Need-returns Inv-loop μ-loop
+returns c =
+    let g = c .before .before .loop .inv in
+    (record { run = g .0 .run; halts = closes-at (g .0) (sym (c .before .closes-on .ensures) ∙ c .if1 .left) }, (g .0 .fit, g .1))
 
 pub close-spec : {M : Type 1} → statement M
 close-spec =
@@ -86,20 +72,13 @@ close-spec =
     Inv-loop
     μ-loop
     loop-holds
-    is-open-requires
-    sub-if2
+    closes-on-requires
+    close-on-requires
+    loop-less
+    loop-again
     same-length
     same-length-2
     same-length-3
     same-length-4
     same-length-5
-    returns
-    close-on-requires
-    loop-less
-    loop-again
-    same-length-6
-    same-length-7
-    same-length-8
-    same-length-9
-    same-length-10
-    returns-2)
+    returns)

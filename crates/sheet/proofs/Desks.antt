@@ -1,0 +1,161 @@
+-- A turn, as the code holds it: what it makes of the desk, that another follows exactly where it goes on, and that turns come to an end.
+use mathlib.Core.Path.{_≡_, refl, sym, ap, _∙_}
+use mathlib.Core.Bool.{Bool, true, false, cond, not, _&&_, _||_, false≢true}
+use mathlib.Core.List.{List, [], _∷_}
+use Prim.Native.Nat.{ℕ, zero, suc, _+_, _-_, _≤_, _<_}
+use native.Mathlib.Omega.{arith}
+use borrow.Author.Tests.{ltb-true, ltb-false, lt-ltb, le-ltb, leb-true, not-true}
+use lib.Dec.{ltb, leb}
+use lib.ListN.{length, take, drop, length-drop}
+use lib.Seq.{drop-drop, length-take-le}
+use Rattle.cut.specs.Lines.{mostBytes}
+use Rattle.cut.specs.declared.Cut.{Cut}
+use Rattle.cut.specs.Chunks.{Held, none, lineOf, stateOf, Eaten, eatOf}
+use Rattle.cut.proofs.Chunks.{eats}
+use Rattle.print.specs.Room.{leastRoom}
+use Rattle.night.specs.declared.Stage.{Stage}
+use Rattle.night.specs.declared.Stage.the-variants as G
+use Rattle.night.specs.Lines.{Tables}
+use Rattle.sheet.specs.declared.State.{State}
+use Rattle.sheet.specs.declared.Turn.{Turn}
+use Rattle.sheet.specs.Sheet.{Night, isEnding, isOver, stopped, answered}
+use Rattle.sheet.specs.Stops.{Runs}
+use Rattle.sheet.specs.Turns.{Desk, endSaid, eatTurn, turnOf, lastOf, closeTurn, hasRoom, isOn, goesOn, closesOn}
+use Rattle.sheet.specs.Feeding.{nightOf, deskOf, fresh, goesAt, closesAt, turnsLeft, Fit}
+
+-- ---- bytes are eaten
+
+module _ (chunk : List ℕ) (from : ℕ) (n : Night) (h : Held) where
+  -- a line was ended, and answered,
+  pub eat-done : (at : ℕ) (h₁ : Held) (n₁ : Night) → true ≡ eatOf (drop from chunk) h .done → at ≡ from + eatOf (drop from chunk) h .used
+      → h₁ ≡ eatOf (drop from chunk) h .held → n₁ ≡ answered n (lineOf h₁)
+      → _≡_ {A = Desk} (record { rest = drop at chunk; night = n₁; held = none }) (eatTurn (record { rest = drop from chunk; night = n; held = h }))
+  eat-done at h₁ n₁ p q r s = rw (← p, ← r, ← s, drop-drop (eatOf (drop from chunk) h .used) from chunk, q)
+
+  -- or it is held,
+  pub eat-open : (at : ℕ) (h₁ : Held) → false ≡ eatOf (drop from chunk) h .done → at ≡ from + eatOf (drop from chunk) h .used
+      → h₁ ≡ eatOf (drop from chunk) h .held
+      → _≡_ {A = Desk} (record { rest = drop at chunk; night = n; held = h₁ }) (eatTurn (record { rest = drop from chunk; night = n; held = h }))
+  eat-open at h₁ p q r = rw (← p, ← r, drop-drop (eatOf (drop from chunk) h .used) from chunk, q)
+
+-- and a byte was eaten
+pub eat-more : (chunk : List ℕ) (from : ℕ) (h : Held) (at : ℕ) → at ≡ from + eatOf (drop from chunk) h .used → from < length chunk → from < at
+eat-more chunk from h at q l = let n : 0 < length (drop from chunk) = omega (arith, length-drop from chunk) in omega (arith, eats (drop from chunk) h n)
+
+-- ---- the end
+
+module _ (rest : List ℕ) (s r : State) (t : Tables) (out out₁ buf : List ℕ) (e : isEnding (s .stage) ≡ true)
+    (q : nightOf r t out₁ ≡ endSaid (nightOf s t out)) (k : r .cut ≡ s .cut) where
+  pub end-turned : deskOf rest r t out₁ buf ≡ turnOf (deskOf rest s t out buf)
+  end-turned = rw (e, q, k)
+
+  pub end-closed : deskOf rest r t out₁ buf ≡ closeTurn (deskOf rest s t out buf)
+  end-closed = rw (e, q, k)
+
+-- ---- or a line
+
+pub eat-turned : (d : Desk) → isEnding (d .night .stage) ≡ false → eatTurn d ≡ turnOf d
+eat-turned d e = rw e
+
+pub last-closed : (rest : List ℕ) (s r : State) (t u : Tables) (out out₁ buf : List ℕ) → isEnding (s .stage) ≡ false
+    → nightOf r u out₁ ≡ lastOf (take (s .cut .held) buf) (deskOf rest s t out buf) → r .cut ≡ fresh → deskOf rest r u out₁ buf ≡ closeTurn (deskOf rest s t out buf)
+last-closed rest s r t u out out₁ buf e q k = rw (e, q, k)
+
+module _ (s : State) (t : Tables) (out buf : List ℕ) where
+  pub last-line : 0 < s .cut .held → s .cut .held ≤ length buf
+      → answered (nightOf s t out) (lineOf (stateOf buf (s .cut))) ≡ lastOf (take (s .cut .held) buf) (deskOf [] s t out buf)
+  last-line l h = go buf (s .cut .held) l h
+    where
+      go : (b : List ℕ) (k : ℕ) → 0 < k → k ≤ length b
+          → answered (nightOf s t out) (lineOf (stateOf buf (s .cut))) ≡ lastOf (take k b) (deskOf [] s t out buf)
+      go b zero l h = absurd (omega arith)
+      go [] (suc k) l h = absurd (omega arith)
+      go (x ∷ b) (suc k) l h = refl
+
+  pub last-none : s .cut .held ≡ 0 → stopped 0 (nightOf s t out) ≡ lastOf (take (s .cut .held) buf) (deskOf [] s t out buf)
+  last-none e = rw e
+
+-- ---- where another turn follows
+
+pub both-true : (a b : Bool) → (a && b) ≡ true → (a ≡ true) × (b ≡ true)
+both-true true true e = (refl, refl)
+both-true true false e = absurd (false≢true e)
+both-true false b e = absurd (false≢true e)
+
+on-quiet : (g : Stage) (m : Bool) → isOn g m ≡ true → isEnding g ≡ false → (isOver g ≡ false) × (m ≡ true)
+on-quiet G.House m e q = (refl, e)
+on-quiet (G.Members count k) m e q = (refl, e)
+on-quiet G.Day m e q = (refl, e)
+on-quiet (G.Ending k) m e q = absurd (false≢true (sym q))
+on-quiet G.Over m e q = absurd (false≢true e)
+
+pub goes-room : (n room : ℕ) (t : Turn) → goesAt n room t ≡ true → t .state .used + leastRoom ≤ room
+goes-room n room t e = leb-true (t .state .used + leastRoom) room (both-true (hasRoom room (t .state .used)) (isOn (t .state .stage) (ltb (t .at) n)) e .0)
+
+pub goes-reads : (n room : ℕ) (t : Turn) → goesAt n room t ≡ true → isEnding (t .state .stage) ≡ false → (isOver (t .state .stage) ≡ false) × (t .at < n)
+goes-reads n room t e q =
+    let o = on-quiet (t .state .stage) (ltb (t .at) n) (both-true (hasRoom room (t .state .used)) (isOn (t .state .stage) (ltb (t .at) n)) e .1) q in
+    (o .0, ltb-true (t .at) n (o .1))
+
+pub closes-room : (room : ℕ) (s : State) → closesAt room s ≡ true → s .used + leastRoom ≤ room
+closes-room room s e = leb-true (s .used + leastRoom) room (both-true (hasRoom room (s .used)) (not (isOver (s .stage))) e .0)
+
+pub closes-open : (room : ℕ) (s : State) → closesAt room s ≡ true → isOver (s .stage) ≡ false
+closes-open room s e = not-true (isOver (s .stage)) (both-true (hasRoom room (s .used)) (not (isOver (s .stage))) e .1)
+
+some-left : (at n : ℕ) → ltb 0 (n - at) ≡ ltb at n
+some-left at n = go (ltb at n) refl
+  where
+    go : (b : Bool) → ltb at n ≡ b → ltb 0 (n - at) ≡ b
+    go true e = let l = ltb-true at n e in lt-ltb 0 (n - at) (omega arith)
+    go false e = let l = ltb-false at n e in le-ltb 0 (n - at) (omega arith)
+
+-- ---- turns come to an end
+
+left-at : (g : Stage) (n : ℕ) → isOver g ≡ false → isEnding g ≡ false → turnsLeft g n ≡ 100 + n
+left-at G.House n o e = refl
+left-at (G.Members count k) n o e = refl
+left-at G.Day n o e = refl
+left-at (G.Ending k) n o e = absurd (false≢true (sym e))
+left-at G.Over n o e = absurd (false≢true (sym o))
+
+left-most : (g : Stage) (n : ℕ) → turnsLeft g n ≤ 100 + n
+left-most G.House n = omega arith
+left-most (G.Members count k) n = omega arith
+left-most G.Day n = omega arith
+left-most (G.Ending k) n = omega arith
+left-most G.Over n = omega arith
+
+-- bytes were read,
+pub fewer-bytes : (g h : Stage) (m n : ℕ) → m < n → isOver h ≡ false → isEnding h ≡ false → turnsLeft g m < turnsLeft h n
+fewer-bytes g h m n l o e = rw (left-at h n o e) (omega (arith, left-most g m))
+
+-- or the night is over
+pub over-less : (g h : Stage) (m n : ℕ) → g ≡ G.Over → isOver h ≡ false → isEnding h ≡ false → turnsLeft g m < turnsLeft h n
+over-less g h m n q o e = rw (left-at h n o e, q) (omega arith)
+
+pub fit-at : {s : State} {t : Tables} {m : ℕ} (n : ℕ) → m ≡ n → Fit s t m → Fit s t n
+fit-at n e f = record { few = f .few; room = omega (arith, f .room); held = f .held; stands = f .stands }
+
+-- ---- between two turns: how the night came here from where it was, with the lists as they were lent
+
+pub record Going (turn : Desk → Desk) (goes : Desk → Bool) (d : Desk) (n : ℕ) (rest buf counts out : List ℕ) (t : Tables) (s : State) : Type 0 where
+  pub fit : Fit s t n
+  pub line : length buf ≡ mostBytes
+  pub slots : length counts ≡ 64
+  pub long : length out ≡ n
+  pub run : Runs turn goes d (deskOf rest s t out buf)
+
+module _ {turn : Desk → Desk} {goes : Desk → Bool} {d : Desk} {n : ℕ} {buf counts out : List ℕ} {t : Tables} {s : State} where
+  -- the code tells where it goes on,
+  pub goes-at : (chunk : List ℕ) (at : ℕ) {b : Bool} → Going turn goes d n (drop at chunk) buf counts out t s
+      → goesAt (length chunk) (length out) (record { at = at; state = s }) ≡ b → goesOn n (deskOf (drop at chunk) s t out buf) ≡ b
+  goes-at chunk at g e =
+      let room : s .used ≤ length out = omega (arith, g .fit .room, g .long) in
+      rw (← g .long, length-take-le (s .used) out room, length-drop at chunk, some-left at (length chunk)) e
+
+  -- and at the end of the input
+  pub closes-at : {rest : List ℕ} {b : Bool} → Going turn goes d n rest buf counts out t s → closesAt (length out) s ≡ b → closesOn n (deskOf rest s t out buf) ≡ b
+  closes-at g e =
+      let room : s .used ≤ length out = omega (arith, g .fit .room, g .long) in
+      rw (← g .long, length-take-le (s .used) out room) e

@@ -1,0 +1,31 @@
+use lib.ListN.{take}
+-- `sheet::out::tell` meets its contract: no loop.
+use Rattle.sheet.proofs.Writing.{said-ranges, grown-none}
+use mathlib.Core.List.{append-nil}
+use mathlib.Core.Path.{sym}
+use native.Mathlib.Omega.{arith}
+use borrow.Author.Needs.{needs}
+use Rattle.sheet.proofs.out.tell.Statement.{statement}
+use Rattle.sheet.proofs.out.tell.Tie as tie
+
+enum-told : tie.Need-enum-told
+enum-told c = search needs
+
+enum-known-said : tie.Need-enum-known-said
+enum-known-said c = search needs
+
+put-requires : tie.Need-put-requires
+put-requires c κs = (c .before .before .before .before .before .pre .0, said-ranges _ _ (c .before .before .said .given .1) (c .before .before .before .before .before .pre .1))
+
+returns : tie.Need-returns
+returns c = rw (c .enum-told .given .1) (sym (append-nil (take (c .before .before .before .args .used) (c .before .before .before .args .out .now))), omega arith, grown-none _ _)
+
+same-length : tie.Need-same-length
+same-length c = search needs
+
+returns-2 : tie.Need-returns-2
+returns-2 c = rw (c .before .before .before .before .before .said .given .1) (c .before .before .put .ensures)
+
+pub tell-spec : {M : Type 1} → statement M
+tell-spec =
+    tie.close (tie.spec enum-told enum-known-said put-requires returns same-length returns-2)

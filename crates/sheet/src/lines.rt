@@ -1,0 +1,94 @@
+// A line that is ended: it is read and answered, or refused as one too many.
+use crate::State;
+use crate::between;
+use crate::out::put;
+use crate::out::tell;
+use cut::Cut;
+use dayfile::Entry;
+use night::Stage;
+use print::Says;
+ghost use mathlib.Core.Path.{_≡_};
+ghost use mathlib.Core.Bool.{false};
+ghost use mathlib.Core.List.{_++_};
+ghost use Prim.Native.Nat.{_+_, _≤_, _<_};
+ghost use lib.ListN.{length, take};
+ghost use Rattle.answers.specs.declared.Refusal.the-variants.{Line};
+ghost use Rattle.cut.specs.Lines.{mostBytes};
+ghost use Rattle.cut.specs.Chunks.{lineOf, stateOf};
+ghost use Rattle.print.specs.Lines.{textOf};
+ghost use Rattle.print.specs.Room.{leastRoom};
+ghost use Rattle.night.specs.declared.Stage.the-variants.{Over};
+ghost use Rattle.night.specs.Lines.{tables, refusal, doesOf};
+ghost use Rattle.night.specs.Stands.{Read};
+ghost use Rattle.sheet.specs.Sheet.{mostLines, isOver, entryIn, countsIn, after, answered};
+ghost use Rattle.sheet.specs.Feeding.{nightOf, fresh, stateAt, Grown, Fit};
+
+// The most lines of a day file.
+const MOST_LINES: u64 = 1_000_000;
+
+// A line is ended, and answered.
+pub fn line_on(
+    buf: &[u8],
+    counts: &mut [u64],
+    accounts: &mut [i64],
+    counters: &mut [u32],
+    pays: &mut [u64],
+    out: &mut [u8],
+    s: State,
+) -> State
+    requires { ⌜ Fit s (tables (now accounts) (now counters) (now pays)) (length (now out)) × (isOver (s .stage) ≡ false) ⌝ }
+    requires { ⌜ (length (now counts) ≡ 64) × (length (now buf) ≡ mostBytes) × (s .used + leastRoom ≤ length (now out)) ⌝ }
+    ensures { λ r. ⌜ nightOf r (tables (now (accounts .exit)) (now (counters .exit)) (now (pays .exit))) (now (out .exit)) ≡ answered (nightOf s (tables (now (accounts .entry)) (now (counters .entry)) (now (pays .entry))) (now (out .entry))) (lineOf (stateOf (now (buf .entry)) (s .cut))) ⌝ }
+    ensures { λ r. ⌜ Fit r (tables (now (accounts .exit)) (now (counters .exit)) (now (pays .exit))) (length (now (out .entry))) × (r .cut ≡ fresh) × Grown (s .used) (r .used) (now (out .entry)) (now (out .exit)) ⌝ }
+{
+    if s.lines < MOST_LINES {
+        let e = read(buf, s.cut, counts);
+        return take_line(counts, accounts, counters, pays, out, s, e);
+    }
+    stop(out, s, s.lines + 1)
+}
+
+// What the line says that the buffer holds. A group's counts are left in the lent list.
+fn read(buf: &[u8], c: Cut, counts: &mut [u64]) -> Entry
+    requires { ⌜ (length (now counts) ≡ 64) × (c .held ≤ length (now buf)) ⌝ }
+    ensures { λ r. ⌜ r ≡ entryIn (lineOf (stateOf (now (buf .entry)) c)) ⌝ }
+    ensures { λ r. ⌜ take (length (countsIn (lineOf (stateOf (now (buf .entry)) c)))) (now (counts .exit)) ≡ countsIn (lineOf (stateOf (now (buf .entry)) c)) ⌝ }
+{
+    if c.is_long {
+        return Entry::Bad;
+    }
+    let held = c.held;
+    dayfile::read_line(&buf[..held], counts)
+}
+
+// The next line is taken: what it does, and what it says.
+fn take_line(
+    counts: &[u64],
+    accounts: &mut [i64],
+    counters: &mut [u32],
+    pays: &mut [u64],
+    out: &mut [u8],
+    s: State,
+    e: Entry,
+) -> State
+    requires { ⌜ Fit s (tables (now accounts) (now counters) (now pays)) (length (now out)) × Read e (now counts) × (s .lines < mostLines) × (s .used + leastRoom ≤ length (now out)) ⌝ }
+    ensures { λ r. ⌜ nightOf r (tables (now (accounts .exit)) (now (counters .exit)) (now (pays .exit))) (now (out .exit)) ≡ after (nightOf s (tables (now (accounts .entry)) (now (counters .entry)) (now (pays .entry))) (now (out .entry))) (doesOf (s .lines + 1) (s .stage) (tables (now (accounts .entry)) (now (counters .entry)) (now (pays .entry))) e (now (counts .entry))) ⌝ }
+    ensures { λ r. ⌜ Fit r (tables (now (accounts .exit)) (now (counters .exit)) (now (pays .exit))) (length (now (out .entry))) × (r .cut ≡ fresh) × Grown (s .used) (r .used) (now (out .entry)) (now (out .exit)) ⌝ }
+{
+    let n = s.lines + 1;
+    let stage = s.stage;
+    let d = night::answer(accounts, counters, pays, counts, stage, n, e);
+    let said = d.said;
+    let used = tell(out, s.used, said);
+    let next = d.stage;
+    between(n, next, used)
+}
+
+// Bad line n: it is refused, and the night stops.
+pub fn stop(out: &mut [u8], s: State, n: u64) -> State
+    requires { ⌜ (n ≤ mostLines + 1) × (s .used + leastRoom ≤ length (now out)) ⌝ }
+    ensures { λ r. ⌜ (r ≡ stateAt (s .lines) Over (r .used)) × (take (r .used) (now (out .exit)) ≡ take (s .used) (now (out .entry)) ++ textOf (refusal n Line)) × (r .used ≤ length (now (out .entry))) × Grown (s .used) (r .used) (now (out .entry)) (now (out .exit)) ⌝ }
+{
+    let used = put(out, s.used, Says::Refused(n, 12));
+    between(s.lines, Stage::Over, used)
+}

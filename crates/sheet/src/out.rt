@@ -1,0 +1,47 @@
+// The lent output: what is said goes behind what is used.
+use night::Said;
+use print::Put;
+use print::Says;
+ghost use mathlib.Core.Path.{_≡_};
+ghost use mathlib.Core.List.{_++_};
+ghost use Prim.Native.Nat.{_+_, _≤_};
+ghost use lib.ListN.{length, take};
+ghost use Rattle.print.specs.Lines.{textOf};
+ghost use Rattle.print.specs.Room.{leastRoom, Ranges};
+ghost use Rattle.night.specs.Stands.{SaidRanges};
+ghost use Rattle.sheet.specs.Sheet.{saidText};
+ghost use Rattle.sheet.specs.Turns.{hasRoom};
+ghost use Rattle.sheet.specs.Feeding.{Grown};
+
+// The bytes of output that must be left before a turn.
+const LEAST_ROOM: usize = 80;
+
+// Whether there is room for a line behind what is used of n bytes.
+pub fn has_room(used: usize, n: usize) -> bool
+    requires { ⌜ used ≤ n ⌝ }
+    ensures { λ r. ⌜ r ≡ hasRoom n used ⌝ }
+{
+    n - used >= LEAST_ROOM
+}
+
+// What a line says goes behind what is used, and gives what is used then.
+pub fn tell(out: &mut [u8], used: usize, said: Said) -> usize
+    requires { ⌜ (used + leastRoom ≤ length (now out)) × SaidRanges said ⌝ }
+    ensures { λ r. ⌜ (take r (now (out .exit)) ≡ take used (now (out .entry)) ++ saidText said) × (r ≤ length (now (out .entry))) × Grown used r (now (out .entry)) (now (out .exit)) ⌝ }
+{
+    match said {
+        Said::Nothing => used,
+        Said::One(s) => put(out, used, s),
+    }
+}
+
+// A line goes behind what is used, and gives what is used then.
+pub fn put(out: &mut [u8], used: usize, s: Says) -> usize
+    requires { ⌜ (used + leastRoom ≤ length (now out)) × Ranges s ⌝ }
+    ensures { λ r. ⌜ (take r (now (out .exit)) ≡ take used (now (out .entry)) ++ textOf s) × (r ≤ length (now (out .entry))) × Grown used r (now (out .entry)) (now (out .exit)) ⌝ }
+{
+    let Put::Wrote(m) = print::write_line(out, used, s) else {
+        return used;
+    };
+    used + m
+}
