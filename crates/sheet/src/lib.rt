@@ -38,22 +38,6 @@ pub fn start() -> State
     between(0, Stage::House, 0)
 }
 
-// A state with no line begun.
-pub fn between(lines: u64, stage: Stage, used: usize) -> State
-    ensures { λ r. ⌜ r ≡ stateAt lines stage used ⌝ }
-{
-    let cut = Cut {
-        held: 0,
-        is_long: false,
-    };
-    State {
-        lines,
-        stage,
-        used,
-        cut,
-    }
-}
-
 // A chunk from from on, turn by turn, until it is eaten or the night is over and all is said, or less than 80 bytes are left in the output.
 pub fn feed(
     chunk: &[u8],
@@ -126,5 +110,21 @@ pub fn is_over(stage: Stage) -> bool
         Stage::Day => false,
         Stage::Ending(_) => false,
         Stage::Over => true,
+    }
+}
+
+// A state with no line begun.
+fn between(lines: u64, stage: Stage, used: usize) -> State
+    ensures { λ r. ⌜ r ≡ stateAt lines stage used ⌝ }
+{
+    let cut = Cut {
+        held: 0,
+        is_long: false,
+    };
+    State {
+        lines,
+        stage,
+        used,
+        cut,
     }
 }
