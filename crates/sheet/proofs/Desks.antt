@@ -1,17 +1,17 @@
 -- A turn, as the code holds it: what it makes of the desk, that another follows exactly where it goes on, and that turns come to an end.
-use mathlib.Core.Path.{_≡_, refl, sym, ap, _∙_}
-use mathlib.Core.Bool.{Bool, true, false, cond, not, _&&_, _||_, false≢true}
+use mathlib.Core.Path.{_≡_, refl, sym}
+use mathlib.Core.Bool.{Bool, true, false, not, false≢true}
 use mathlib.Core.List.{List, [], _∷_}
 use Prim.Native.Nat.{ℕ, zero, suc, _+_, _-_, _≤_, _<_}
 use native.Mathlib.Omega.{arith}
 use borrow.Author.Tests.{ltb-true, ltb-false, lt-ltb, le-ltb, leb-true, not-true}
-use lib.Dec.{ltb, leb}
+use lib.Dec.{ltb}
 use lib.ListN.{length, take, drop, length-drop}
 use lib.Seq.{drop-drop, length-take-le}
 use Rattle.cut.specs.Lines.{mostBytes}
-use Rattle.cut.specs.declared.Cut.{Cut}
-use Rattle.cut.specs.Chunks.{Held, none, lineOf, stateOf, Eaten, eatOf}
+use Rattle.cut.specs.Chunks.{Held, none, lineOf, stateOf, eatOf}
 use Rattle.cut.proofs.Chunks.{eats}
+use Rattle.tables.proofs.Tests.{and-both}
 use Rattle.print.specs.Room.{leastRoom}
 use Rattle.night.specs.declared.Stage.{Stage}
 use Rattle.night.specs.declared.Stage.the-variants as G
@@ -77,11 +77,6 @@ module _ (s : State) (t : Tables) (out buf : List ℕ) where
 
 -- ---- where another turn follows
 
-pub both-true : (a b : Bool) → (a && b) ≡ true → (a ≡ true) × (b ≡ true)
-both-true true true e = (refl, refl)
-both-true true false e = absurd (false≢true e)
-both-true false b e = absurd (false≢true e)
-
 on-quiet : (g : Stage) (m : Bool) → isOn g m ≡ true → isEnding g ≡ false → (isOver g ≡ false) × (m ≡ true)
 on-quiet G.House m e q = (refl, e)
 on-quiet (G.Members count k) m e q = (refl, e)
@@ -90,18 +85,18 @@ on-quiet (G.Ending k) m e q = absurd (false≢true (sym q))
 on-quiet G.Over m e q = absurd (false≢true e)
 
 pub goes-room : (n room : ℕ) (t : Turn) → goesAt n room t ≡ true → t .state .used + leastRoom ≤ room
-goes-room n room t e = leb-true (t .state .used + leastRoom) room (both-true (hasRoom room (t .state .used)) (isOn (t .state .stage) (ltb (t .at) n)) e .0)
+goes-room n room t e = leb-true (t .state .used + leastRoom) room (and-both (hasRoom room (t .state .used)) (isOn (t .state .stage) (ltb (t .at) n)) e .0)
 
 pub goes-reads : (n room : ℕ) (t : Turn) → goesAt n room t ≡ true → isEnding (t .state .stage) ≡ false → (isOver (t .state .stage) ≡ false) × (t .at < n)
 goes-reads n room t e q =
-    let o = on-quiet (t .state .stage) (ltb (t .at) n) (both-true (hasRoom room (t .state .used)) (isOn (t .state .stage) (ltb (t .at) n)) e .1) q in
+    let o = on-quiet (t .state .stage) (ltb (t .at) n) (and-both (hasRoom room (t .state .used)) (isOn (t .state .stage) (ltb (t .at) n)) e .1) q in
     (o .0, ltb-true (t .at) n (o .1))
 
 pub closes-room : (room : ℕ) (s : State) → closesAt room s ≡ true → s .used + leastRoom ≤ room
-closes-room room s e = leb-true (s .used + leastRoom) room (both-true (hasRoom room (s .used)) (not (isOver (s .stage))) e .0)
+closes-room room s e = leb-true (s .used + leastRoom) room (and-both (hasRoom room (s .used)) (not (isOver (s .stage))) e .0)
 
 pub closes-open : (room : ℕ) (s : State) → closesAt room s ≡ true → isOver (s .stage) ≡ false
-closes-open room s e = not-true (isOver (s .stage)) (both-true (hasRoom room (s .used)) (not (isOver (s .stage))) e .1)
+closes-open room s e = not-true (isOver (s .stage)) (and-both (hasRoom room (s .used)) (not (isOver (s .stage))) e .1)
 
 some-left : (at n : ℕ) → ltb 0 (n - at) ≡ ltb at n
 some-left at n = go (ltb at n) refl

@@ -4,5 +4,7 @@ pub mod Writing
 pub mod Steps
 pub mod Endings
 pub mod Desks
+pub mod Over
+pub mod Behind
 pub mod Unique
 pub mod Theorem

@@ -1,5 +1,6 @@
--- The library's theorems: chunks of any size, fed one after the other and closed, give the sheet of the whole file, also where the output
--- was written out in between; what a call leaves to come is what was to come, and where it stops with room left, all is done.
+-- The library's theorems: chunks of any size, fed one after the other and closed, give the sheet of the whole file; what a call leaves to
+-- come is what was to come, and where it stops with room left, all is done; and the night of a host, however it reads and writes, gives the
+-- sheet of its file.
 use mathlib.Core.Path.{_≡_, refl, sym, ap, _∙_}
 use mathlib.Core.Bool.{Bool, true, false, cond, not, false≢true}
 use mathlib.Core.List.{List, [], _∷_, _++_, append-assoc}
@@ -7,33 +8,32 @@ use mathlib.Core.Logic.{_⊎_, inl, inr}
 use Prim.Native.Nat.{ℕ, _+_, _≤_}
 use native.Mathlib.Omega.{arith}
 use borrow.Author.Tests.{ltb-false, le-leb, not-true, not-false}
-use lib.Dec.{ltb, eqb}
+use lib.Dec.{ltb}
 use lib.ListN.{length}
-use Rattle.cut.specs.Lines.{Line}
-use Rattle.cut.specs.Chunks.{none, pushed, lineOf, Fed, byteOf, feedOf, feedAll, endBy, finish, joined}
-use Rattle.cut.proofs.Chunks.{chunks, feed-under}
+use Rattle.cut.specs.Chunks.{Fed, feedOf, feedAll, finish, joined}
+use Rattle.cut.proofs.Chunks.{feed-append, feed-lines, chunks}
+use Rattle.tables.proofs.Tests.{and-both}
 use Rattle.print.specs.Room.{leastRoom}
 use Rattle.night.specs.declared.Stage.{Stage}
 use Rattle.night.specs.declared.Stage.the-variants as G
-use Rattle.night.specs.Lines.{doesOf}
-use Rattle.sheet.specs.Sheet.{mostLines, Night, finished, isEnding, isOver, entryIn, countsIn, after, stopped, stepOf, morning, closed, sheetOf}
+use Rattle.night.specs.Lines.{Tables}
+use Rattle.sheet.specs.declared.State.{State}
+use Rattle.sheet.specs.Sheet.{Night, finished, isEnding, isOver, stepOf, morning, closed, sheetOf}
 use Rattle.sheet.specs.Stops.{Stops}
-use Rattle.sheet.specs.Turns.{Desk, turnOf, closeTurn, hasRoom, isOn, goesOn, closesOn, fedOf, comesTo, closesTo}
+use Rattle.sheet.specs.Turns.{Desk, endTurn, turnOf, lastTurn, closeTurn, hasRoom, isOn, goesOn, closesOn, fedOf, comesTo, closesTo}
 use Rattle.sheet.specs.Feeding.{deskOf, dawn}
+use Rattle.sheet.specs.Session.{firstDesk, cleared, Session, begun, hands, feeds, writes, closes}
 use Rattle.sheet.proofs.Stopping.{stops-same}
 use Rattle.sheet.proofs.Futures.{quiet-same, turn-comes, close-closes}
-use Rattle.sheet.proofs.Desks.{both-true}
+use Rattle.sheet.proofs.Over.{over-quiet, over-closed}
+use Rattle.sheet.proofs.Behind.{behind, feed-behind, close-behind}
 
--- the night before the first line, with nothing held
-abbrev pub dawnOf : Fed Night
-dawnOf = record { day = morning; held = none }
-
--- the state before the first line, with empty tables, is that night
-pub dawn-is : (rest out buf : List ℕ) → fedOf (deskOf rest dawn (morning .tables) out buf) ≡ dawnOf
-dawn-is rest out buf = refl
+-- the state before the first line, with empty tables, is the first desk
+pub dawn-is : (out buf : List ℕ) → deskOf [] dawn (morning .tables) out buf ≡ firstDesk
+dawn-is out buf = refl
 
 -- chunks one after the other, and then the end of the input, give the sheet of the whole file
-pub sheet-of-chunks : (cs : List (List ℕ)) → closed (finish stepOf (feedAll stepOf cs dawnOf)) ≡ sheetOf (joined cs)
+pub sheet-of-chunks : (cs : List (List ℕ)) → closed (finish stepOf (feedAll stepOf cs (fedOf firstDesk))) ≡ sheetOf (joined cs)
 sheet-of-chunks cs = ap closed (chunks stepOf cs morning)
 
 -- ---- what a call leaves to come, and where it stops with 80 bytes left
@@ -69,62 +69,61 @@ module _ (n : ℕ) {d e : Desk} where
 
   -- at the end of the input, the sheet to come is what was to come,
   pub close-comes : Stops closeTurn (closesOn n) d e → closesTo e ≡ closesTo d
-  close-comes s = stops-same closesTo (λ x g. close-closes x (not-true (isOver (x .night .stage)) (both-true (hasRoom n (length (x .night .sheet))) (not (isOver (x .night .stage))) g .1))) s
+  close-comes s = stops-same closesTo (λ x g. close-closes x (not-true (isOver (x .night .stage)) (and-both (hasRoom n (length (x .night .sheet))) (not (isOver (x .night .stage))) g .1))) s
 
   -- and the night is over
   pub close-over : Stops closeTurn (closesOn n) d e → length (e .night .sheet) + leastRoom ≤ n → isOver (e .night .stage) ≡ true
   close-over s l = not-false (isOver (e .night .stage)) (rw (le-leb (length (e .night .sheet) + leastRoom) n l) at (s .halts))
 
--- ---- once the night is over, what else the file has adds nothing
+-- ---- the night of a host
 
-over-stays : (d : Night) (l : Line) → isOver (d .stage) ≡ true → stepOf d l ≡ d
-over-stays d l o = rw o (quiet-same d (over-quiet (d .stage) o))
-  where
-    over-quiet : (g : Stage) → isOver g ≡ true → isEnding g ≡ false
-    over-quiet G.House e = refl
-    over-quiet (G.Members count k) e = refl
-    over-quiet G.Day e = refl
-    over-quiet (G.Ending k) e = absurd (false≢true e)
-    over-quiet G.Over e = refl
+-- a state whose output was written out is cleared
+pub flushed-is : (rest : List ℕ) (s : State) (t : Tables) (out buf : List ℕ)
+    → deskOf rest (record { lines = s .lines; stage = s .stage; used = 0; cut = s .cut }) t out buf ≡ cleared (deskOf rest s t out buf)
+flushed-is rest s t out buf = refl
 
-over-by : (b : ℕ) (f : Fed Night) → isOver (f .day .stage) ≡ true → byteOf stepOf b f .day ≡ f .day
-over-by b f o = go (eqb b 10)
+-- the sheet that comes of it
+abbrev total : List ℕ → Desk → List ℕ → List ℕ
+total w d later = w ++ closed (finish stepOf (feedOf stepOf later (comesTo d)))
+
+-- what was written out comes first
+total-cleared : (w : List ℕ) (d : Desk) (later : List ℕ) → total (w ++ d .night .sheet) (cleared d) later ≡ total w d later
+total-cleared w d later =
+    let p : List ℕ = d .night .sheet in
+    let c : Fed Night = comesTo (cleared d) in
+    let e : comesTo d ≡ record { day = behind p (c .day); held = c .held } = feed-behind p (d .rest) (fedOf (cleared d)) in
+    let f : feedOf stepOf later (comesTo d) ≡ record { day = behind p (feedOf stepOf later c .day); held = feedOf stepOf later c .held } = ap (feedOf stepOf later) e ∙ feed-behind p later c in
+    append-assoc w p (closed (finish stepOf (feedOf stepOf later c)))
+    ∙ ap (λ (x : List ℕ). w ++ x) (sym (ap (λ (g : Fed Night). closed (finish stepOf g)) f ∙ close-behind p (feedOf stepOf later c)))
+
+close-rest : (d : Desk) → closeTurn d .rest ≡ d .rest
+close-rest d = go (isEnding (d .night .stage))
   where
-    go : (p : Bool) → cond {A = Fed Night} p (record { day = stepOf (f .day) (lineOf (f .held)); held = none }) (record { day = f .day; held = pushed b (f .held) }) .day ≡ f .day
-    go true = over-stays (f .day) (lineOf (f .held)) o
+    go : (b : Bool) → cond b (endTurn d) (lastTurn d) .rest ≡ d .rest
+    go true = refl
     go false = refl
 
-over-fed : (s : List ℕ) (f : Fed Night) → isOver (f .day .stage) ≡ true → feedOf stepOf s f .day ≡ f .day
+total-same : {file w : List ℕ} {d : Desk} {later : List ℕ} → Session file w d later → total w d later ≡ sheetOf file
 unfolding feedOf
-over-fed [] f o = refl
-over-fed (b ∷ s) f o = let e = over-by b f o in over-fed s (byteOf stepOf b f) (ap (λ (d : Night). isOver (d .stage)) e ∙ o) ∙ e
+total-same {file} begun = ap closed (feed-lines stepOf file [] morning)
+total-same {file} {w} (hands {d = d} chunk later s q) =
+    ap (λ (f : Fed Night). w ++ closed (finish stepOf f)) (sym (feed-append stepOf chunk later (fedOf d)) ∙ ap (λ (r : List ℕ). feedOf stepOf (chunk ++ later) (feedOf stepOf r (fedOf d))) (sym q))
+    ∙ total-same s
+total-same {file} {w} {later = later} (feeds n e s h) = ap (λ (f : Fed Night). w ++ closed (finish stepOf (feedOf stepOf later f))) (feed-comes n h) ∙ total-same s
+total-same (writes {w} {d} {later} s) = total-cleared w d later ∙ total-same s
+total-same {file} {w} (closes {d = d} n e s q h) =
+    let r : e .rest ≡ [] = stops-same (λ (x : Desk). x .rest) (λ x g. close-rest x) h ∙ q in
+    ap (λ (l : List ℕ). w ++ closed (finish stepOf (feedOf stepOf l (fedOf e)))) r
+    ∙ ap (λ (l : List ℕ). w ++ l) (close-comes n h)
+    ∙ ap (λ (l : List ℕ). w ++ closed (finish stepOf (feedOf stepOf l (fedOf d)))) (sym q)
+    ∙ total-same s
 
-over-last : (u : List ℕ) (d : Night) (l : Line) → isOver (d .stage) ≡ true → endBy stepOf u d l ≡ d
-over-last [] d l o = refl
-over-last (b ∷ u) d l o = over-stays d l o
-
-pub over-closed : (s : List ℕ) (f : Fed Night) → isOver (f .day .stage) ≡ true → closed (finish stepOf (feedOf stepOf s f)) ≡ f .day .sheet
-over-closed s f o =
-    let g : Fed Night = feedOf stepOf s f in
-    let e : finish stepOf g ≡ f .day = over-last (g .held .bytes) (g .day) (lineOf (g .held)) (ap (λ (d : Night). isOver (d .stage)) (over-fed s f o) ∙ o) ∙ over-fed s f o in
-    ap closed e ∙ ap (λ (b : Bool). cond b (f .day) (stopped 0 (f .day)) .sheet) o
-
--- ---- bytes that were written out and taken away
-
-abbrev pub behind : List ℕ → Night → Night
-behind p d = record { lines = d .lines; stage = d .stage; tables = d .tables; sheet = p ++ d .sheet }
-
-step-behind : (p : List ℕ) (d : Night) (l : Line) → stepOf (behind p d) l ≡ behind p (stepOf d l)
-step-behind p d l = go (isOver (d .stage)) (ltb (d .lines) mostLines)
-  where
-    go : (o m : Bool)
-        → finished (cond o (behind p d) (cond m (after (behind p d) (doesOf (d .lines + 1) (d .stage) (d .tables) (entryIn l) (countsIn l))) (stopped (d .lines + 1) (behind p d))))
-        ≡ behind p (finished (cond o d (cond m (after d (doesOf (d .lines + 1) (d .stage) (d .tables) (entryIn l) (countsIn l))) (stopped (d .lines + 1) d))))
-    go true m = simp append-assoc
-    go false true = simp append-assoc
-    go false false = simp append-assoc
-
--- what is fed behind bytes that were written out comes behind them
-pub feed-behind : (p s : List ℕ) (f : Fed Night)
-    → feedOf stepOf s (record { day = behind p (f .day); held = f .held }) ≡ record { day = behind p (feedOf stepOf s f .day); held = feedOf stepOf s f .held }
-feed-behind p s f = feed-under stepOf (behind p) (step-behind p) s f
+-- once it is over, what was written out and what stands in the output are the sheet of the file
+pub session-sheet : {file w : List ℕ} {d : Desk} {later : List ℕ} → Session file w d later → isOver (d .night .stage) ≡ true → w ++ d .night .sheet ≡ sheetOf file
+session-sheet {file} {w} {d} {later} s o =
+    let e : finished (d .night) ≡ d .night = quiet-same (d .night) (over-quiet (d .night .stage) o) in
+    let f : closed (finish stepOf (feedOf stepOf later (comesTo d))) ≡ d .night .sheet =
+    ap (λ (g : Fed Night). closed (finish stepOf g)) (sym (feed-append stepOf (d .rest) later (fedOf d)))
+    ∙ over-closed (d .rest ++ later) (fedOf d) (ap (λ (n : Night). isOver (n .stage)) e ∙ o)
+    ∙ ap (λ (n : Night). n .sheet) e in
+    ap (λ (l : List ℕ). w ++ l) (sym f) ∙ total-same s

@@ -1,6 +1,6 @@
 -- Two results of one call are the same: the place where it stopped, the state, the tables, the whole output, and what is held of the next
 -- line. What the line buffer has behind that, and the list of counts, are only lent to work in.
-use mathlib.Core.Path.{_≡_, sym, ap, _∙_, subst}
+use mathlib.Core.Path.{_≡_, sym, ap, _∙_}
 use mathlib.Core.Bool.{Bool}
 use mathlib.Core.List.{List, [], _++_}
 use Prim.Native.Nat.{ℕ, _≤_}

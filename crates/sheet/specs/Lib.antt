@@ -2,3 +2,4 @@ pub mod Sheet
 pub mod Stops
 pub mod Turns
 pub mod Feeding
+pub mod Session

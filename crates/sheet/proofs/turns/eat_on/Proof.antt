@@ -1,7 +1,6 @@
 -- `sheet::turns::eat_on` meets its contract: no loop.
 use Rattle.sheet.proofs.Desks.{eat-done, eat-open, eat-more}
 use Rattle.sheet.proofs.Writing.{grown-none}
-use Rattle.sheet.specs.Turns.{Desk, eatTurn}
 use Rattle.sheet.specs.Feeding.{nightOf}
 use Rattle.night.specs.Lines.{Tables, tables}
 use Rattle.sheet.specs.Sheet.{Night}

@@ -3,7 +3,6 @@ use Rattle.sheet.proofs.Desks.{last-line, last-none, fewer-bytes, over-
 use Rattle.sheet.proofs.Steps.{stopped-at, fit-over}
 use Rattle.sheet.specs.declared.State.{State}
 use Rattle.night.specs.Lines.{Tables, tables}
-use Rattle.night.specs.declared.Stage.the-variants as G
 use lib.ListN.{length}
 use mathlib.Core.Path.{ap, _∙_}
 use borrow.Author.Needs.{needs}
