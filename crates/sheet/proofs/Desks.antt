@@ -1,5 +1,5 @@
 -- A turn, as the code holds it: what it makes of the desk, that another follows exactly where it goes on, and that turns come to an end.
-use mathlib.Core.Path.{_≡_, refl, sym}
+use mathlib.Core.Path.{_≡_, refl, sym, _∙_}
 use mathlib.Core.Bool.{Bool, true, false, not, false≢true}
 use mathlib.Core.List.{List, [], _∷_}
 use Prim.Native.Nat.{ℕ, zero, suc, _+_, _-_, _≤_, _<_}
@@ -21,7 +21,9 @@ use Rattle.sheet.specs.declared.Turn.{Turn}
 use Rattle.sheet.specs.Sheet.{Night, isEnding, isOver, stopped, answered}
 use Rattle.sheet.specs.Stops.{Runs}
 use Rattle.sheet.specs.Turns.{Desk, endSaid, eatTurn, turnOf, lastOf, closeTurn, hasRoom, isOn, goesOn, closesOn}
-use Rattle.sheet.specs.Feeding.{nightOf, deskOf, fresh, goesAt, closesAt, turnsLeft, Fit}
+use Rattle.sheet.specs.Feeding.{nightOf, deskOf, fresh, goesAt, closesAt, turnsLeft, Grown, Fit}
+use Rattle.sheet.proofs.Stopping.{runs-none, runs-next}
+use Rattle.sheet.proofs.Writing.{grown-none, grown-more}
 
 -- ---- bytes are eaten
 
@@ -42,7 +44,7 @@ module _ (chunk : List ℕ) (from : ℕ) (n : Night) (h : Held) where
 pub eat-more : (chunk : List ℕ) (from : ℕ) (h : Held) (at : ℕ) → at ≡ from + eatOf (drop from chunk) h .used → from < length chunk → from < at
 eat-more chunk from h at q l = let n : 0 < length (drop from chunk) = omega (arith, length-drop from chunk) in omega (arith, eats (drop from chunk) h n)
 
--- ---- the end
+-- ---- a line of the end is said, in a turn while there is input or at its end
 
 module _ (rest : List ℕ) (s r : State) (t : Tables) (out out₁ buf : List ℕ) (e : isEnding (s .stage) ≡ true)
     (q : nightOf r t out₁ ≡ endSaid (nightOf s t out)) (k : r .cut ≡ s .cut) where
@@ -52,16 +54,18 @@ module _ (rest : List ℕ) (s r : State) (t : Tables) (out out₁ buf : List ℕ
   pub end-closed : deskOf rest r t out₁ buf ≡ closeTurn (deskOf rest s t out buf)
   end-closed = rw (e, q, k)
 
--- ---- or a line
+-- ---- or the next line is read
 
 pub eat-turned : (d : Desk) → isEnding (d .night .stage) ≡ false → eatTurn d ≡ turnOf d
 eat-turned d e = rw e
 
+-- and at the end of the input the last one
 pub last-closed : (rest : List ℕ) (s r : State) (t u : Tables) (out out₁ buf : List ℕ) → isEnding (s .stage) ≡ false
     → nightOf r u out₁ ≡ lastOf (take (s .cut .held) buf) (deskOf rest s t out buf) → r .cut ≡ fresh → deskOf rest r u out₁ buf ≡ closeTurn (deskOf rest s t out buf)
 last-closed rest s r t u out out₁ buf e q k = rw (e, q, k)
 
 module _ (s : State) (t : Tables) (out buf : List ℕ) where
+  -- a last line that no byte 10 ended,
   pub last-line : 0 < s .cut .held → s .cut .held ≤ length buf
       → answered (nightOf s t out) (lineOf (stateOf buf (s .cut))) ≡ lastOf (take (s .cut .held) buf) (deskOf [] s t out buf)
   last-line l h = go buf (s .cut .held) l h
@@ -72,6 +76,7 @@ module _ (s : State) (t : Tables) (out buf : List ℕ) where
       go [] (suc k) l h = absurd (omega arith)
       go (x ∷ b) (suc k) l h = refl
 
+  -- or none
   pub last-none : s .cut .held ≡ 0 → stopped 0 (nightOf s t out) ≡ lastOf (take (s .cut .held) buf) (deskOf [] s t out buf)
   last-none e = rw e
 
@@ -84,14 +89,17 @@ on-quiet G.Day m e q = (refl, e)
 on-quiet (G.Ending k) m e q = absurd (false≢true (sym q))
 on-quiet G.Over m e q = absurd (false≢true e)
 
+-- a turn has room for a line,
 pub goes-room : (n room : ℕ) (t : Turn) → goesAt n room t ≡ true → t .state .used + leastRoom ≤ room
 goes-room n room t e = leb-true (t .state .used + leastRoom) room (and-both (hasRoom room (t .state .used)) (isOn (t .state .stage) (ltb (t .at) n)) e .0)
 
+-- and where nothing of the end is to be said, the night is not over and bytes are left
 pub goes-reads : (n room : ℕ) (t : Turn) → goesAt n room t ≡ true → isEnding (t .state .stage) ≡ false → (isOver (t .state .stage) ≡ false) × (t .at < n)
 goes-reads n room t e q =
     let o = on-quiet (t .state .stage) (ltb (t .at) n) (and-both (hasRoom room (t .state .used)) (isOn (t .state .stage) (ltb (t .at) n)) e .1) q in
     (o .0, ltb-true (t .at) n (o .1))
 
+-- the same at the end of the input
 pub closes-room : (room : ℕ) (s : State) → closesAt room s ≡ true → s .used + leastRoom ≤ room
 closes-room room s e = leb-true (s .used + leastRoom) room (and-both (hasRoom room (s .used)) (not (isOver (s .stage))) e .0)
 
@@ -129,28 +137,53 @@ fewer-bytes g h m n l o e = rw (left-at h n o e) (omega (arith, left-most g m))
 pub over-less : (g h : Stage) (m n : ℕ) → g ≡ G.Over → isOver h ≡ false → isEnding h ≡ false → turnsLeft g m < turnsLeft h n
 over-less g h m n q o e = rw (left-at h n o e, q) (omega arith)
 
+-- with the same number of bytes of output
 pub fit-at : {s : State} {t : Tables} {m : ℕ} (n : ℕ) → m ≡ n → Fit s t m → Fit s t n
 fit-at n e f = record { few = f .few; room = omega (arith, f .room); held = f .held; stands = f .stands }
 
 -- ---- between two turns: how the night came here from where it was, with the lists as they were lent
 
-pub record Going (turn : Desk → Desk) (goes : Desk → Bool) (d : Desk) (n : ℕ) (rest buf counts out : List ℕ) (t : Tables) (s : State) : Type 0 where
-  pub fit : Fit s t n
+-- by turns from d, with the output as it was then and so many of its bytes used
+pub record Going (turn : Desk → Desk) (goes : Desk → Bool) (d : Desk) (used : ℕ) (out₀ rest buf counts out : List ℕ) (t : Tables) (s : State) : Type 0 where
+  pub fit : Fit s t (length out₀)
   pub line : length buf ≡ mostBytes
   pub slots : length counts ≡ 64
-  pub long : length out ≡ n
+  pub long : length out ≡ length out₀
+  pub grown : Grown used (s .used) out₀ out
   pub run : Runs turn goes d (deskOf rest s t out buf)
 
-module _ {turn : Desk → Desk} {goes : Desk → Bool} {d : Desk} {n : ℕ} {buf counts out : List ℕ} {t : Tables} {s : State} where
-  -- the code tells where it goes on,
-  pub goes-at : (chunk : List ℕ) (at : ℕ) {b : Bool} → Going turn goes d n (drop at chunk) buf counts out t s
-      → goesAt (length chunk) (length out) (record { at = at; state = s }) ≡ b → goesOn n (deskOf (drop at chunk) s t out buf) ≡ b
-  goes-at chunk at g e =
-      let room : s .used ≤ length out = omega (arith, g .fit .room, g .long) in
-      rw (← g .long, length-take-le (s .used) out room, length-drop at chunk, some-left at (length chunk)) e
+module _ {turn : Desk → Desk} {goes : Desk → Bool} where
+  -- at first,
+  pub going-first : {s : State} {t : Tables} {counts buf : List ℕ} (rest out : List ℕ) → Fit s t (length out) → length buf ≡ mostBytes → length counts ≡ 64
+      → Going turn goes (deskOf rest s t out buf) (s .used) out rest buf counts out t s
+  going-first {s} {t} {counts} {buf} rest out f l k =
+      record { fit = f; line = l; slots = k; long = refl; grown = grown-none (s .used) out; run = runs-none (deskOf rest s t out buf) }
 
-  -- and at the end of the input
-  pub closes-at : {rest : List ℕ} {b : Bool} → Going turn goes d n rest buf counts out t s → closesAt (length out) s ≡ b → closesOn n (deskOf rest s t out buf) ≡ b
-  closes-at g e =
-      let room : s .used ≤ length out = omega (arith, g .fit .room, g .long) in
-      rw (← g .long, length-take-le (s .used) out room) e
+  module _ {d : Desk} {used : ℕ} {out₀ buf counts out : List ℕ} {t : Tables} {s : State} where
+    -- after one turn more;
+    pub going-next : {rest rest₁ buf₁ counts₁ out₁ : List ℕ} {u : Tables} {r : State} → Going turn goes d used out₀ rest buf counts out t s → goes (deskOf rest s t out buf) ≡ true
+        → deskOf rest₁ r u out₁ buf₁ ≡ turn (deskOf rest s t out buf) → Fit r u (length out) → Grown (s .used) (r .used) out out₁
+        → length buf₁ ≡ length buf → length counts₁ ≡ length counts → length out₁ ≡ length out → Going turn goes d used out₀ rest₁ buf₁ counts₁ out₁ u r
+    going-next {rest₁ = rest₁} {buf₁} {counts₁} {out₁} {u} {r} g e q f w a b o =
+        record {
+          fit = fit-at (length out₀) (g .long) f;
+          line = a ∙ g .line;
+          slots = b ∙ g .slots;
+          long = o ∙ g .long;
+          grown = grown-more (g .grown) w;
+          run = runs-next (deskOf rest₁ r u out₁ buf₁) (g .run) e q;
+        }
+
+    -- the code tells where it goes on,
+    pub goes-at : (chunk : List ℕ) (at : ℕ) {b : Bool} → Going turn goes d used out₀ (drop at chunk) buf counts out t s
+        → goesAt (length chunk) (length out) (record { at = at; state = s }) ≡ b → goesOn (length out₀) (deskOf (drop at chunk) s t out buf) ≡ b
+    goes-at chunk at g e =
+        let room : s .used ≤ length out = omega (arith, g .fit .room, g .long) in
+        rw (← g .long, length-take-le (s .used) out room, length-drop at chunk, some-left at (length chunk)) e
+
+    -- and at the end of the input
+    pub closes-at : {rest : List ℕ} {b : Bool} → Going turn goes d used out₀ rest buf counts out t s
+        → closesAt (length out) s ≡ b → closesOn (length out₀) (deskOf rest s t out buf) ≡ b
+    closes-at g e =
+        let room : s .used ≤ length out = omega (arith, g .fit .room, g .long) in
+        rw (← g .long, length-take-le (s .used) out room) e

@@ -23,6 +23,7 @@ use Rattle.sheet.specs.Sheet.{textsOf, isEnding}
 use Rattle.sheet.specs.Turns.{endSaid}
 use Rattle.sheet.specs.Feeding.{nightOf, turnsLeft, Fit}
 
+-- the same stage has lines to say
 pub not-ending : {g k : Stage} → isEnding g ≡ true → g ≡ k → isEnding k ≡ true
 not-ending e q = rw q at e
 
@@ -49,6 +50,7 @@ text-next t k l = go (ltb k (countOf (t .counters))) refl
         rw (drop-at (listing (countOf (t .counters)) (balanceSays t)) (S.Money (moneyOf (t .accounts)) ∷ []) k n, append-nil)
 
 module _ (s : State) (t : Tables) (k : ℕ) (q : s .stage ≡ G.Ending k) where
+  -- the tables hold a state, of which k members were told
   pub telling : {n : ℕ} → Fit s t n → Telling k t
   telling f = subst (λ (g : Stage). Stands g t) q (f .stands)
 
@@ -68,6 +70,7 @@ module _ (s : State) (t : Tables) (k : ℕ) (q : s .stage ≡ G.Ending k) where
       go true = omega (arith, few)
       go false = omega (arith, few)
 
+  -- and the tables suit the stage behind it
   pub end-stands : Telling k t → (r : State) → r .stage ≡ endNext (t .counters) k → Stands (r .stage) t
   end-stands h r e = rw e (go (ltb k (countOf (t .counters))) refl)
     where

@@ -28,6 +28,7 @@ pub did-kept : (n : ℕ) (g : Stage) (t : Tables) (e : Entry) (vs : List ℕ) (r
 did-kept n g t e vs r u few w s q = rw q (does-kept n (omega arith) g t e vs w s)
 
 module _ (s : State) (t : Tables) (out : List ℕ) where
+  -- a line that is taken
   pub taken : (e : Entry) (vs : List ℕ) (r : Does) (u : Tables) (used : ℕ) (out₁ : List ℕ)
       → did r (u .accounts) (u .counters) (u .pays) ≡ doesOf (s .lines + 1) (s .stage) t e vs
       → take used out₁ ≡ take (s .used) out ++ saidText (r .said)
@@ -40,6 +41,7 @@ module _ (s : State) (t : Tables) (out : List ℕ) where
   stopped-at n r out₁ q f = ap (λ (x : State). nightOf x t out₁) q ∙ rw f
 
   module _ (l : Line) (on : isOver (s .stage) ≡ false) where
+    -- a line is answered by being taken,
     pub answered-taken : (e : Entry) (vs : List ℕ) (d : Night) → s .lines < mostLines → e ≡ entryIn l → take (length (countsIn l)) vs ≡ countsIn l
         → d ≡ after (nightOf s t out) (doesOf (s .lines + 1) (s .stage) t e vs) → d ≡ answered (nightOf s t out) l
     answered-taken e vs d few q k f =
@@ -48,9 +50,11 @@ module _ (s : State) (t : Tables) (out : List ℕ) where
         let z = ap (λ (x : Entry). doesOf (s .lines + 1) (s .stage) t x (countsIn l)) q in
         f ∙ rw (on, lt-ltb (s .lines) mostLines few) (ap (after (nightOf s t out)) (w ∙ z))
 
+    -- or refused as one too many
     pub answered-stopped : (r : State) (out₁ : List ℕ) → mostLines ≤ s .lines → r ≡ stateAt (s .lines) G.Over (r .used)
         → take (r .used) out₁ ≡ take (s .used) out ++ textOf (refusal (s .lines + 1) R.Line) → nightOf r t out₁ ≡ answered (nightOf s t out) l
     answered-stopped r out₁ many q f = rw (on, le-ltb (s .lines) mostLines many) (stopped-at (s .lines + 1) r out₁ q f)
 
+-- a night that is over suits any tables
 pub fit-over : (s : State) (t : Tables) (n : ℕ) (r : State) → Fit s t n → r ≡ stateAt (s .lines) G.Over (r .used) → r .used ≤ n → Fit r t n
 fit-over s t n r f q l = record { few = rw q (f .few); room = l; held = rw q (omega arith); stands = rw q tt }

@@ -1,4 +1,5 @@
--- A line that is written where 80 bytes are left stands behind what was used; and what a line says that was read.
+-- A line that is written where 80 bytes are left stands behind what was used, and the output behind it is as it was; and what a line says
+-- that was read.
 use mathlib.Core.Path.{_≡_, refl, sym, ap, _∙_, subst}
 use mathlib.Core.Bool.{Bool, true, false}
 use mathlib.Core.List.{List, _++_}
@@ -54,7 +55,7 @@ grown-more {u} {v} {w} {out} {out₁} a b =
     let e : v + (w - v) ≡ w = omega (arith, b .on) in
     record { on = omega (arith, a .on, b .on); rest = b .rest ∙ subst (λ (k : ℕ). drop k out₁ ≡ drop k out) e (sym (drop-drop (w - v) v out₁) ∙ ap (drop (w - v)) (a .rest) ∙ drop-drop (w - v) v out) }
 
--- 80 bytes are left
+-- 80 bytes are left behind what is used
 pub room-at : (used n : ℕ) → used ≤ n → leb leastRoom (n - used) ≡ hasRoom n used
 room-at used n l = go (leb (used + leastRoom) n) refl
   where
@@ -62,11 +63,13 @@ room-at used n l = go (leb (used + leastRoom) n) refl
     go true e = let h = leb-true (used + leastRoom) n e in le-leb leastRoom (n - used) (omega arith)
     go false e = let h = leb-false (used + leastRoom) n e in lt-leb leastRoom (n - used) (omega arith)
 
+-- what is said is in its ranges
 pub said-ranges : (g : Said) (s : Says) → g ≡ D.One s → SaidRanges g → Ranges s
 said-ranges g s e r = subst SaidRanges e r
 
 -- ---- the line that was read
 
+-- a group's counts stand at the beginning of the lent list,
 pub counts-left : (s v w : List ℕ) → length v ≡ 64 → w ≡ sets v 0 (countsOf s) → take (length (countsOf s)) w ≡ countsOf s
 counts-left s v w l q =
     let n : 0 + length (countsOf s) ≤ length v = omega (arith, counts-small s .1) in
@@ -76,5 +79,6 @@ line-small : (l : Line) → smallEntry (countsIn l) (entryIn l)
 line-small (text s) = entry-small s
 line-small long = tt
 
+-- and what was read is small enough for the night
 pub read-small : (l : Line) {e : Entry} → e ≡ entryIn l → smallEntry (countsIn l) e
 read-small l q = rw q (line-small l)

@@ -31,10 +31,12 @@ pub record Night : Type 0 where
   pub tables : Tables
   pub sheet : List ℕ
 
+-- lines of the sheet, one after the other
 abbrev pub textsOf : List Says → List ℕ
 textsOf [] = []
 textsOf (s ∷ ss) = textOf s ++ textsOf ss
 
+-- what a line says, as text
 abbrev pub saidText : Said → List ℕ
 saidText D.Nothing = []
 saidText (D.One s) = textOf s
@@ -67,6 +69,7 @@ isEnding G.Day = false
 isEnding (G.Ending k) = true
 isEnding G.Over = false
 
+-- the night is over
 abbrev pub isOver : Stage → Bool
 isOver G.House = false
 isOver (G.Members count k) = false
@@ -79,6 +82,7 @@ abbrev pub entryIn : Line → Entry
 entryIn (text s) = entryOf s
 entryIn long = E.Bad
 
+-- the counts that it leaves, if it is a group
 abbrev pub countsIn : Line → List ℕ
 countsIn (text s) = countsOf s
 countsIn long = []

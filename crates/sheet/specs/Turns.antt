@@ -38,6 +38,7 @@ endSaid d =
       sheet = d .sheet ++ textsOf (take 1 (restSays (d .stage) (d .tables)));
     }
 
+-- a turn that says it
 abbrev pub endTurn : Desk → Desk
 endTurn d = record { rest = d .rest; night = endSaid (d .night); held = d .held }
 
@@ -63,6 +64,7 @@ abbrev pub lastOf : List ℕ → Desk → Night
 lastOf [] d = stopped 0 (d .night)
 lastOf (b ∷ u) d = answered (d .night) (lineOf (d .held))
 
+-- a turn that does so
 abbrev pub lastTurn : Desk → Desk
 lastTurn d = record { rest = d .rest; night = lastOf (d .held .bytes) d; held = none }
 

@@ -1,9 +1,7 @@
 -- `sheet::close` meets its contract. The invariant: turns led here, and before each of them it went on.
-use Rattle.sheet.proofs.Desks.{fit-at, closes-at, Going}
-use Rattle.sheet.proofs.Writing.{grown-none, grown-more}
-use Rattle.sheet.proofs.Stopping.{runs-none, runs-next}
+use Rattle.sheet.proofs.Desks.{fit-at, Going, going-first, going-next, closes-at}
 use Rattle.sheet.specs.Turns.{closeTurn, closesOn}
-use Rattle.sheet.specs.Feeding.{deskOf, turnsLeft, Grown}
+use Rattle.sheet.specs.Feeding.{deskOf, turnsLeft}
 use Rattle.night.specs.Lines.{tables}
 use lib.ListN.{length}
 use mathlib.Core.List.{[]}
@@ -14,15 +12,15 @@ use Rattle.sheet.proofs.close.Tie as tie
 
 abbrev Inv-loop : tie.InvT-loop
 Inv-loop buf counts₀ accounts₀ counters₀ pays₀ out₀ t₀ counts accounts counters pays out t =
-    Going closeTurn (closesOn (length out₀)) (deskOf [] t₀ (tables accounts₀ counters₀ pays₀) out₀ buf) (length out₀) [] buf counts out (tables accounts counters pays) t
-    × Grown (t₀ .used) (t .used) out₀ out × (length accounts ≡ length accounts₀) × (length counters ≡ length counters₀) × (length pays ≡ length pays₀)
+    Going closeTurn (closesOn (length out₀)) (deskOf [] t₀ (tables accounts₀ counters₀ pays₀) out₀ buf) (t₀ .used) out₀ [] buf counts out (tables accounts counters pays) t
+    × (length accounts ≡ length accounts₀) × (length counters ≡ length counters₀) × (length pays ≡ length pays₀)
 
 abbrev μ-loop : tie.MeasureT-loop
 μ-loop buf counts₀ accounts₀ counters₀ pays₀ out₀ t₀ counts accounts counters pays out t =
     turnsLeft (t .stage) (t .cut .held)
 
 loop-holds : tie.Need-loop-holds Inv-loop μ-loop
-loop-holds c = let s = c .before .before .before .before .before in (record { fit = s .pre .0; line = s .pre .2; slots = s .pre .1; long = refl; run = runs-none _ }, grown-none _ _, refl, refl, refl)
+loop-holds c = let s = c .before .before .before .before .before in (going-first [] _ (s .pre .0) (s .pre .2) (s .pre .1), refl, refl, refl)
 
 closes-on-requires : tie.Need-closes-on-requires Inv-loop μ-loop
 closes-on-requires c κs = let g = c .loop .inv .0 in omega (arith, g .fit .room, g .long)
@@ -37,25 +35,24 @@ loop-again : tie.Need-loop-again Inv-loop μ-loop
 loop-again c =
     let g = c .before .before .before .before .before .before .before .before .before .before .before .before .before .before .before .before .before .loop .inv in
     let r = c .before .before .before .before .before .before .before .before .before .close-on in
-    let e = sym (c .before .before .before .before .before .before .before .before .before .before .before .before .before .before .before .before .closes-on .ensures) ∙ c .before .before .before .before .before .before .before .before .before .before .before .before .before .before .before .if1 .taken in (
-      record { fit = fit-at _ (g .0 .long) (r .ensures .1 .0); line = g .0 .line; slots = omega (arith, r .kept, g .0 .slots); long = omega (arith, r .kept, g .0 .long); run = runs-next _ (g .0 .run) (closes-at (g .0) e) (r .ensures .0) },
-      grown-more (g .1) (r .ensures .1 .2),
+    let e = closes-at (g .0) (sym (c .before .before .before .before .before .before .before .before .before .before .before .before .before .before .before .before .closes-on .ensures) ∙ c .before .before .before .before .before .before .before .before .before .before .before .before .before .before .before .if1 .taken) in (
+      going-next (g .0) e (r .ensures .0) (r .ensures .1 .0) (r .ensures .1 .2) refl (omega (arith, r .kept)) (omega (arith, r .kept)),
+      omega (arith, r .kept, g .1),
       omega (arith, r .kept, g .2),
       omega (arith, r .kept, g .3),
-      omega (arith, r .kept, g .4),
     )
 
 same-length : tie.Need-same-length Inv-loop μ-loop
 same-length c = c .before .before .loop .inv .0 .slots ∙ sym (c .before .before .before .before .before .before .before .before .pre .1)
 
 same-length-2 : tie.Need-same-length-2 Inv-loop μ-loop
-same-length-2 c = c .before .before .loop .inv .2
+same-length-2 c = c .before .before .loop .inv .1
 
 same-length-3 : tie.Need-same-length-3 Inv-loop μ-loop
-same-length-3 c = c .before .before .loop .inv .3
+same-length-3 c = c .before .before .loop .inv .2
 
 same-length-4 : tie.Need-same-length-4 Inv-loop μ-loop
-same-length-4 c = c .before .before .loop .inv .4
+same-length-4 c = c .before .before .loop .inv .3
 
 same-length-5 : tie.Need-same-length-5 Inv-loop μ-loop
 same-length-5 c = c .before .before .loop .inv .0 .long
@@ -63,7 +60,7 @@ same-length-5 c = c .before .before .loop .inv .0 .long
 returns : tie.Need-returns Inv-loop μ-loop
 returns c =
     let g = c .before .before .loop .inv in
-    (record { run = g .0 .run; halts = closes-at (g .0) (sym (c .before .closes-on .ensures) ∙ c .if1 .left) }, (g .0 .fit, g .1))
+    (record { run = g .0 .run; halts = closes-at (g .0) (sym (c .before .closes-on .ensures) ∙ c .if1 .left) }, (g .0 .fit, g .0 .grown))
 
 pub close-spec : {M : Type 1} → statement M
 close-spec =

@@ -1,9 +1,7 @@
 -- `sheet::feed` meets its contract. The invariant: turns led here, and before each of them it went on.
-use Rattle.sheet.proofs.Desks.{fit-at, goes-at, Going}
-use Rattle.sheet.proofs.Writing.{grown-none, grown-more}
-use Rattle.sheet.proofs.Stopping.{runs-none, runs-next}
+use Rattle.sheet.proofs.Desks.{fit-at, Going, going-first, going-next, goes-at}
 use Rattle.sheet.specs.Turns.{turnOf, goesOn}
-use Rattle.sheet.specs.Feeding.{deskOf, turnsLeft, Grown}
+use Rattle.sheet.specs.Feeding.{deskOf, turnsLeft}
 use Rattle.night.specs.Lines.{tables}
 use lib.ListN.{length, drop}
 use Prim.Native.Nat.{_-_, _≤_}
@@ -14,15 +12,15 @@ use Rattle.sheet.proofs.feed.Tie as tie
 
 abbrev Inv-loop : tie.InvT-loop
 Inv-loop chunk from buf₀ counts₀ accounts₀ counters₀ pays₀ out₀ t₀ buf counts accounts counters pays out t =
-    Going turnOf (goesOn (length out₀)) (deskOf (drop from chunk) (t₀ .state) (tables accounts₀ counters₀ pays₀) out₀ buf₀) (length out₀) (drop (t .at) chunk) buf counts out (tables accounts counters pays) (t .state)
-    × (t .at ≤ length chunk) × Grown (t₀ .state .used) (t .state .used) out₀ out × (length accounts ≡ length accounts₀) × (length counters ≡ length counters₀) × (length pays ≡ length pays₀)
+    Going turnOf (goesOn (length out₀)) (deskOf (drop from chunk) (t₀ .state) (tables accounts₀ counters₀ pays₀) out₀ buf₀) (t₀ .state .used) out₀ (drop (t .at) chunk) buf counts out (tables accounts counters pays) (t .state)
+    × (t .at ≤ length chunk) × (length accounts ≡ length accounts₀) × (length counters ≡ length counters₀) × (length pays ≡ length pays₀)
 
 abbrev μ-loop : tie.MeasureT-loop
 μ-loop chunk from buf₀ counts₀ accounts₀ counters₀ pays₀ out₀ t₀ buf counts accounts counters pays out t =
     turnsLeft (t .state .stage) (length chunk - t .at)
 
 loop-holds : tie.Need-loop-holds Inv-loop μ-loop
-loop-holds c = let s = c .before .before .before .before .before .before in (record { fit = s .pre .0; line = s .pre .1 .1; slots = s .pre .1 .0; long = refl; run = runs-none _ }, s .pre .1 .2, grown-none _ _, refl, refl, refl)
+loop-holds c = let s = c .before .before .before .before .before .before in (going-first _ _ (s .pre .0) (s .pre .1 .1) (s .pre .1 .0), s .pre .1 .2, refl, refl, refl)
 
 goes-on-requires : tie.Need-goes-on-requires Inv-loop μ-loop
 goes-on-requires c κs = let g = c .loop .inv .0 in omega (arith, g .fit .room, g .long)
@@ -37,13 +35,12 @@ loop-again : tie.Need-loop-again Inv-loop μ-loop
 loop-again c =
     let g = c .before .before .before .before .before .before .before .before .before .before .before .before .before .before .before .before .before .before .before .before .before .loop .inv in
     let r = c .before .before .before .before .before .before .before .before .before .before .before .turn-on in
-    let e = sym (c .before .before .before .before .before .before .before .before .before .before .before .before .before .before .before .before .before .before .before .before .goes-on .ensures) ∙ c .before .before .before .before .before .before .before .before .before .before .before .before .before .before .before .before .before .before .before .if1 .taken in (
-      record { fit = fit-at _ (g .0 .long) (r .ensures .1 .0); line = omega (arith, r .kept, g .0 .line); slots = omega (arith, r .kept, g .0 .slots); long = omega (arith, r .kept, g .0 .long); run = runs-next _ (g .0 .run) (goes-at (c .before .before .before .before .before .before .before .before .before .before .before .before .before .before .before .before .before .before .before .before .before .before .before .before .before .before .before .before .args .chunk .now) (c .before .before .before .before .before .before .before .before .before .before .before .before .before .before .before .before .before .before .before .before .before .loop .t .at) (g .0) e) (r .ensures .0) },
+    let e = goes-at (c .before .before .before .before .before .before .before .before .before .before .before .before .before .before .before .before .before .before .before .before .before .before .before .before .before .before .before .before .args .chunk .now) (c .before .before .before .before .before .before .before .before .before .before .before .before .before .before .before .before .before .before .before .before .before .loop .t .at) (g .0) (sym (c .before .before .before .before .before .before .before .before .before .before .before .before .before .before .before .before .before .before .before .before .goes-on .ensures) ∙ c .before .before .before .before .before .before .before .before .before .before .before .before .before .before .before .before .before .before .before .if1 .taken) in (
+      going-next (g .0) e (r .ensures .0) (r .ensures .1 .0) (r .ensures .1 .3) (omega (arith, r .kept)) (omega (arith, r .kept)) (omega (arith, r .kept)),
       r .ensures .1 .1,
-      grown-more (g .2) (r .ensures .1 .3),
+      omega (arith, r .kept, g .2),
       omega (arith, r .kept, g .3),
       omega (arith, r .kept, g .4),
-      omega (arith, r .kept, g .5),
     )
 
 same-length : tie.Need-same-length Inv-loop μ-loop
@@ -53,13 +50,13 @@ same-length-2 : tie.Need-same-length-2 Inv-loop μ-loop
 same-length-2 c = c .before .before .loop .inv .0 .slots ∙ sym (c .before .before .before .before .before .before .before .before .before .pre .1 .0)
 
 same-length-3 : tie.Need-same-length-3 Inv-loop μ-loop
-same-length-3 c = c .before .before .loop .inv .3
+same-length-3 c = c .before .before .loop .inv .2
 
 same-length-4 : tie.Need-same-length-4 Inv-loop μ-loop
-same-length-4 c = c .before .before .loop .inv .4
+same-length-4 c = c .before .before .loop .inv .3
 
 same-length-5 : tie.Need-same-length-5 Inv-loop μ-loop
-same-length-5 c = c .before .before .loop .inv .5
+same-length-5 c = c .before .before .loop .inv .4
 
 same-length-6 : tie.Need-same-length-6 Inv-loop μ-loop
 same-length-6 c = c .before .before .loop .inv .0 .long
@@ -67,7 +64,7 @@ same-length-6 c = c .before .before .loop .inv .0 .long
 returns : tie.Need-returns Inv-loop μ-loop
 returns c =
     let g = c .before .before .loop .inv in
-    (record { run = g .0 .run; halts = goes-at (c .before .before .before .before .before .before .before .before .before .args .chunk .now) (c .before .before .loop .t .at) (g .0) (sym (c .before .goes-on .ensures) ∙ c .if1 .left) }, (g .0 .fit, g .1, g .2))
+    (record { run = g .0 .run; halts = goes-at (c .before .before .before .before .before .before .before .before .before .args .chunk .now) (c .before .before .loop .t .at) (g .0) (sym (c .before .goes-on .ensures) ∙ c .if1 .left) }, (g .0 .fit, g .1, g .0 .grown))
 
 pub feed-spec : {M : Type 1} → statement M
 feed-spec =

@@ -13,13 +13,23 @@ ending-at-requires : tie.Need-ending-at-requires
 ending-at-requires c κs = search needs
 
 end-line-requires : tie.Need-end-line-requires
-end-line-requires c κs = telling (c .before .before .before .before .args .s) (tables (c .before .before .before .before .args .accounts .now) (c .before .before .before .before .args .counters .now) (c .before .before .before .before .args .pays .now)) (c .ending-at .result) (c .ending-at .ensures) (c .before .before .before .before .pre .0)
+end-line-requires c κs =
+    let s = c .before .before .before .before in
+    telling (s .args .s) (tables (s .args .accounts .now) (s .args .counters .now) (s .args .pays .now)) (c .ending-at .result) (c .ending-at .ensures) (s .pre .0)
 
 put-requires : tie.Need-put-requires
-put-requires c κs = (c .before .before .before .before .before .before .pre .2, rw (c .before .end-line .ensures) (end-ranges (tables (c .before .before .before .before .before .before .args .accounts .now) (c .before .before .before .before .before .before .args .counters .now) (c .before .before .before .before .before .before .args .pays .now)) (telling (c .before .before .before .before .before .before .args .s) (tables (c .before .before .before .before .before .before .args .accounts .now) (c .before .before .before .before .before .before .args .counters .now) (c .before .before .before .before .before .before .args .pays .now)) (c .before .before .ending-at .result) (c .before .before .ending-at .ensures) (c .before .before .before .before .before .before .pre .0) .holds) (c .before .before .ending-at .result)))
+put-requires c κs =
+    let s = c .before .before .before .before .before .before in
+    let t : Tables = tables (s .args .accounts .now) (s .args .counters .now) (s .args .pays .now) in
+    let k = c .before .before .ending-at in
+    (s .pre .2, rw (c .before .end-line .ensures) (end-ranges t (telling (s .args .s) t (k .result) (k .ensures) (s .pre .0) .holds) (k .result)))
 
 end-next-requires : tie.Need-end-next-requires
-end-next-requires c κs = let h = telling (c .before .before .before .before .before .before .before .before .before .args .s) (tables (c .before .before .before .before .before .before .before .before .before .args .accounts .now) (c .before .before .before .before .before .before .before .before .before .args .counters .now) (c .before .before .before .before .before .before .before .before .before .args .pays .now)) (c .before .before .before .before .before .ending-at .result) (c .before .before .before .before .before .ending-at .ensures) (c .before .before .before .before .before .before .before .before .before .pre .0) in (omega (arith, h .holds .broad), omega (arith, h .told, h .holds .few))
+end-next-requires c κs =
+    let s = c .before .before .before .before .before .before .before .before .before in
+    let k = c .before .before .before .before .before .ending-at in
+    let h = telling (s .args .s) (tables (s .args .accounts .now) (s .args .counters .now) (s .args .pays .now)) (k .result) (k .ensures) (s .pre .0) in
+    (omega (arith, h .holds .broad), omega (arith, h .told, h .holds .few))
 
 same-length : tie.Need-same-length
 same-length c = search needs
@@ -28,13 +38,13 @@ returns : tie.Need-returns
 returns c =
     let s = c .before .before .before .before .before .before .before .before .before .before .before in
     let t : Tables = tables (s .args .accounts .now) (s .args .counters .now) (s .args .pays .now) in
-    let q = c .before .before .before .before .before .before .before .ending-at .ensures in
-    let h = telling (c .before .before .before .before .before .before .before .before .before .before .before .args .s) (tables (c .before .before .before .before .before .before .before .before .before .before .before .args .accounts .now) (c .before .before .before .before .before .before .before .before .before .before .before .args .counters .now) (c .before .before .before .before .before .before .before .before .before .before .before .args .pays .now)) (c .before .before .before .before .before .before .before .ending-at .result) (c .before .before .before .before .before .before .before .ending-at .ensures) (c .before .before .before .before .before .before .before .before .before .before .before .pre .0) in
+    let k = c .before .before .before .before .before .before .before .ending-at in
+    let h = telling (s .args .s) t (k .result) (k .ensures) (s .pre .0) in
     let p = c .before .before .before .before .put in
     let r : State = record { lines = s .args .s .lines; stage = c .before .end-next .result; used = p .result; cut = s .args .s .cut } in
     let g = c .before .end-next .ensures in (
-      end-said (s .args .s) t _ q (s .args .out .now) _ r _ h (c .before .before .before .before .before .before .end-line .ensures) refl g (p .ensures .0),
-      (record { few = s .pre .0 .few; room = p .ensures .1; held = s .pre .0 .held; stands = end-stands (s .args .s) t _ q h r g }, refl, end-fewer (s .args .s) t _ q h r g, p .ensures .2),
+      end-said (s .args .s) t (k .result) (k .ensures) (s .args .out .now) _ r _ h (c .before .before .before .before .before .before .end-line .ensures) refl g (p .ensures .0),
+      (record { few = s .pre .0 .few; room = p .ensures .1; held = s .pre .0 .held; stands = end-stands (s .args .s) t (k .result) (k .ensures) h r g }, refl, end-fewer (s .args .s) t (k .result) (k .ensures) h r g, p .ensures .2),
     )
 
 pub end-on-spec : {M : Type 1} → statement M

@@ -15,7 +15,11 @@ answer-requires : tie.Need-answer-requires
 answer-requires c κs = search needs
 
 tell-requires : tie.Need-tell-requires
-tell-requires c κs = (c .before .before .before .before .before .before .before .before .before .before .before .before .before .before .before .pre .3, did-kept (c .before .before .before .before .before .before .before .before .before .before .before .before .before .before .before .args .s .lines + 1) (c .before .before .before .before .before .before .before .before .before .before .before .before .before .before .before .args .s .stage) (tables (c .before .before .before .before .before .before .before .before .before .before .before .before .before .before .before .args .accounts .now) (c .before .before .before .before .before .before .before .before .before .before .before .before .before .before .before .args .counters .now) (c .before .before .before .before .before .before .before .before .before .before .before .before .before .before .before .args .pays .now)) (c .before .before .before .before .before .before .before .before .before .before .before .before .before .before .before .args .e) (c .before .before .before .before .before .before .before .before .before .before .before .before .before .before .before .args .counts .now) (c .before .before .before .before .before .before .answer .result) (tables (c .before .before .before .before .before .before .answer .last .0) (c .before .before .before .before .before .before .answer .last .1 .0) (c .before .before .before .before .before .before .answer .last .1 .1 .0)) (omega arith) (λ i. omega (arith, c .before .before .before .before .before .before .before .before .before .before .before .before .before .slice-known .given i)) (c .before .before .before .before .before .before .before .before .before .before .before .before .before .before .before .pre .0 .stands) (c .before .before .before .before .before .before .answer .ensures) .ranges)
+tell-requires c κs =
+    let s = c .before .before .before .before .before .before .before .before .before .before .before .before .before .before .before in
+    let t : Tables = tables (s .args .accounts .now) (s .args .counters .now) (s .args .pays .now) in
+    let a = c .before .before .before .before .before .before .answer in
+    (s .pre .3, did-kept (s .args .s .lines + 1) (s .args .s .stage) t (s .args .e) (s .args .counts .now) (a .result) (tables (a .last .0) (a .last .1 .0) (a .last .1 .1 .0)) (omega arith) (λ i. omega (arith, c .before .before .before .before .before .before .before .before .before .before .before .before .before .slice-known .given i)) (s .pre .0 .stands) (a .ensures) .ranges)
 
 between-requires : tie.Need-between-requires
 between-requires c κs = search needs
@@ -35,12 +39,14 @@ same-length-4 c = search needs
 returns : tie.Need-returns
 returns c =
     let s = c .before .before .before .before .before .before .before .before .before .before .before .before .before .before .before .before .before .before .before in
-    let t : Tables = (tables (c .before .before .before .before .before .before .before .before .before .before .before .before .before .before .before .before .before .before .before .args .accounts .now) (c .before .before .before .before .before .before .before .before .before .before .before .before .before .before .before .before .before .before .before .args .counters .now) (c .before .before .before .before .before .before .before .before .before .before .before .before .before .before .before .before .before .before .before .args .pays .now)) in
+    let t : Tables = tables (s .args .accounts .now) (s .args .counters .now) (s .args .pays .now) in
     let a = c .before .before .before .before .before .before .before .before .before .before .answer in
-    let k = did-kept (c .before .before .before .before .before .before .before .before .before .before .before .before .before .before .before .before .before .before .before .args .s .lines + 1) (c .before .before .before .before .before .before .before .before .before .before .before .before .before .before .before .before .before .before .before .args .s .stage) (tables (c .before .before .before .before .before .before .before .before .before .before .before .before .before .before .before .before .before .before .before .args .accounts .now) (c .before .before .before .before .before .before .before .before .before .before .before .before .before .before .before .before .before .before .before .args .counters .now) (c .before .before .before .before .before .before .before .before .before .before .before .before .before .before .before .before .before .before .before .args .pays .now)) (c .before .before .before .before .before .before .before .before .before .before .before .before .before .before .before .before .before .before .before .args .e) (c .before .before .before .before .before .before .before .before .before .before .before .before .before .before .before .before .before .before .before .args .counts .now) (c .before .before .before .before .before .before .before .before .before .before .answer .result) (tables (c .before .before .before .before .before .before .before .before .before .before .answer .last .0) (c .before .before .before .before .before .before .before .before .before .before .answer .last .1 .0) (c .before .before .before .before .before .before .before .before .before .before .answer .last .1 .1 .0)) (omega arith) (λ i. omega (arith, c .before .before .before .before .before .before .before .before .before .before .before .before .before .before .before .before .before .slice-known .given i)) (c .before .before .before .before .before .before .before .before .before .before .before .before .before .before .before .before .before .before .before .pre .0 .stands) (c .before .before .before .before .before .before .before .before .before .before .answer .ensures) in
+    let u : Tables = tables (a .last .0) (a .last .1 .0) (a .last .1 .1 .0) in
+    let k = did-kept (s .args .s .lines + 1) (s .args .s .stage) t (s .args .e) (s .args .counts .now) (a .result) u (omega arith) (λ i. omega (arith, c .before .before .before .before .before .before .before .before .before .before .before .before .before .before .before .before .before .slice-known .given i)) (s .pre .0 .stands) (a .ensures) in
+    let p = c .before .before .before .tell in
     rw (c .between .ensures) (
-      taken (s .args .s) t (s .args .out .now) (s .args .e) (s .args .counts .now) (a .result) (tables (a .last .0) (a .last .1 .0) (a .last .1 .1 .0)) (c .before .before .before .tell .result) _ (a .ensures) (c .before .before .before .tell .ensures .0),
-      (record { few = omega arith; room = c .before .before .before .tell .ensures .1; held = omega arith; stands = k .stands }, refl, c .before .before .before .tell .ensures .2),
+      taken (s .args .s) t (s .args .out .now) (s .args .e) (s .args .counts .now) (a .result) u (p .result) _ (a .ensures) (p .ensures .0),
+      (record { few = omega arith; room = p .ensures .1; held = omega arith; stands = k .stands }, refl, p .ensures .2),
     )
 
 pub take-line-spec : {M : Type 1} → statement M

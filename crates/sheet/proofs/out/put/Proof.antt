@@ -18,16 +18,25 @@ same-length : tie.Need-same-length
 same-length c = search needs
 
 returns : tie.Need-returns
-returns c = absurd (never-full (c .before .before .before .before .before .before .before .args .s) (c .before .before .before .before .before .before .before .args .out .now) (c .before .before .before .before .before .before .before .args .used) (c .before .before .before .before .before .before .before .pre .0) (c .before .before .before .before .write-line .result) (c .before .before .before .before .write-line .ensures .0) (c .enum-told .given .1))
+returns c =
+    let s = c .before .before .before .before .before .before .before in
+    let w = c .before .before .before .before .write-line in
+    absurd (never-full (s .args .s) (s .args .out .now) (s .args .used) (s .pre .0) (w .result) (w .ensures .0) (c .enum-told .given .1))
 
 add-result : tie.Need-add-result
-add-result c = omega (arith, put-behind (c .before .before .before .before .before .before .before .before .args .s) (c .before .before .before .before .before .before .before .before .args .out .now) (c .before .before .before .before .before .before .before .before .args .used) (c .before .before .before .before .before .before .before .before .pre .0) (c .before .before .before .before .before .write-line .result) (c .before .before .before .before .before .write-line .ensures .0) (c .before .m .given .0 .0) _ (c .before .before .before .before .before .before .before .before .pre .1) (c .before .m .given .1) (c .before .before .before .before .before .write-line .ensures .1) .1, c .before .before .before .before .before .before .before .before .good)
+add-result c =
+    let s = c .before .before .before .before .before .before .before .before in
+    let w = c .before .before .before .before .before .write-line in
+    omega (arith, put-behind (s .args .s) (s .args .out .now) (s .args .used) (s .pre .0) (w .result) (w .ensures .0) (c .before .m .given .0 .0) _ (s .pre .1) (c .before .m .given .1) (w .ensures .1) .1, s .good)
 
 same-length-2 : tie.Need-same-length-2
 same-length-2 c = search needs
 
 returns-2 : tie.Need-returns-2
-returns-2 c = put-behind (c .before .before .before .before .before .before .before .before .args .s) (c .before .before .before .before .before .before .before .before .args .out .now) (c .before .before .before .before .before .before .before .before .args .used) (c .before .before .before .before .before .before .before .before .pre .0) (c .before .before .before .before .before .write-line .result) (c .before .before .before .before .before .write-line .ensures .0) (c .before .m .given .0 .0) _ (c .before .before .before .before .before .before .before .before .pre .1) (c .before .m .given .1) (c .before .before .before .before .before .write-line .ensures .1)
+returns-2 c =
+    let s = c .before .before .before .before .before .before .before .before in
+    let w = c .before .before .before .before .before .write-line in
+    put-behind (s .args .s) (s .args .out .now) (s .args .used) (s .pre .0) (w .result) (w .ensures .0) (c .before .m .given .0 .0) _ (s .pre .1) (c .before .m .given .1) (w .ensures .1)
 
 pub put-spec : {M : Type 1} → statement M
 put-spec =

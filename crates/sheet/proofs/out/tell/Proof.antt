@@ -1,6 +1,6 @@
-use lib.ListN.{take}
 -- `sheet::out::tell` meets its contract: no loop.
 use Rattle.sheet.proofs.Writing.{said-ranges, grown-none}
+use lib.ListN.{take}
 use mathlib.Core.List.{append-nil}
 use mathlib.Core.Path.{sym}
 use native.Mathlib.Omega.{arith}
