@@ -8,6 +8,7 @@ use native.Mathlib.Omega.{arith}
 use lib.Dec.{eqb}
 use lib.IntN.{ℤ, pos, negsuc, _+ℤ_, _-ℤ_}
 use lib.ListN.{length, getD, set, take, drop, length-set}
+use Rattle.rule.specs.Kernel.{sum}
 use Rattle.rule.specs.Payment.{payerOf, payeeOf, amountOf, amountTo}
 use Rattle.rule.specs.Queue.{total}
 use Rattle.rule.specs.Table.{queueOf, leaving}
@@ -22,8 +23,8 @@ use Rattle.finder.specs.Positions.{moved, Steady, Entering}
 use Rattle.finder.proofs.Tops.{payer-under, payee-under}
 use Rattle.finder.proofs.Positions.{moved-at, moved-far}
 use Rattle.booking.specs.Booking.{listed, Counted, Weighed}
-use Rattle.booking.specs.Steps.{entered}
-use Rattle.booking.proofs.Passing.{drop-turn, drop-end, leaving-none, leaving-one}
+use Rattle.booking.specs.Steps.{entered, Ends}
+use Rattle.booking.proofs.Passing.{drop-turn, leaving-none, leaving-one, one-of-more, one-fewer, none-leaves}
 
 -- ---- where the entered payments take each position
 
@@ -101,19 +102,22 @@ module _ {a : List ℤ} {c p counts : List ℕ} (g : Counted a c p counts) (bs :
 
 -- ---- the pass
 
--- before place i: what is entered, with what is still to be entered, is all that leaves; each turn takes a position at most an amount further
-pub record Underway (used : ℕ) (p : List ℕ) (xs₀ : List ℤ) (l₀ : List ℕ) (xs : List ℤ) (l : List ℕ) (i : ℕ) : Type 0 where
+-- before place i, with `more` still to leave: what is entered, with what is still to be entered, is all that leaves; each turn takes a position
+-- at most an amount further
+pub record Underway (used : ℕ) (p : List ℕ) (xs₀ : List ℤ) (l₀ : List ℕ) (xs : List ℤ) (l : List ℕ) (more i : ℕ) : Type 0 where
   pub within : i ≤ used
   pub each : length xs ≡ 64
   pub members : length l ≡ 64
+  pub still : more ≡ sum (length l) (listed l)
   pub left : entered xs (leaving (listed l) (drop i (take used p))) ≡ entered xs₀ (leaving (listed l₀) (take used p))
   pub near : (k : ℕ) → k < 64 → far (getD xs k (pos 0)) ≤ farBalance + mostAmount * i
 
 -- the pass starts,
-pub underway-start : {used : ℕ} {p : List ℕ} {xs : List ℤ} (l : List ℕ) → Entering used p xs → length l ≡ 64 → Underway used p xs l xs l 0
-underway-start l g h = record { within = omega arith; each = g .each; members = h; left = refl; near = λ k q. omega (arith, g .near k q) }
+pub underway-start : {used more : ℕ} {p : List ℕ} {xs : List ℤ} (l : List ℕ) → Entering used p xs → length l ≡ 64 → more ≡ sum (length l) (listed l)
+    → Underway used p xs l xs l more 0
+underway-start l g h e = record { within = omega arith; each = g .each; members = h; still = e; left = refl; near = λ k q. omega (arith, g .near k q) }
 
-module _ {used i : ℕ} {p l₀ l : List ℕ} {xs₀ xs : List ℤ} (g : Entering used p xs₀) (h : i < used) (u : Underway used p xs₀ l₀ xs l i) where
+module _ {used more i : ℕ} {p l₀ l : List ℕ} {xs₀ xs : List ℤ} (g : Entering used p xs₀) (h : i < used) (u : Underway used p xs₀ l₀ xs l more i) where
   -- has room for one more,
   pub underway-steady : Steady xs
   underway-steady = record { each = u .each; near = λ k q. omega (arith, u .near k q, g .few) }
@@ -122,24 +126,33 @@ module _ {used i : ℕ} {p l₀ l : List ℕ} {xs₀ xs : List ℤ} (g : Enterin
   turn = ap (λ ws. entered xs (leaving (listed l) ws)) (sym (drop-turn used p i h (g .places))) ∙ u .left
 
   -- passes a payment that stays,
-  pub underway-stay : getD l (payerOf (getD p i 0)) 0 ≡ 0 → Underway used p xs₀ l₀ xs l (i + 1)
+  pub underway-stay : getD l (payerOf (getD p i 0)) 0 ≡ 0 → Underway used p xs₀ l₀ xs l more (i + 1)
   underway-stay e = record {
     within = omega arith;
     each = u .each;
     members = u .members;
+    still = u .still;
     left = ap (λ ws. entered xs ws) (sym (leaving-none (listed l) (getD p i 0) (drop (i + 1) (take used p)) e)) ∙ turn;
     near = λ k q. omega (arith, u .near k q);
   }
 
-  -- enters one that leaves,
+  seat : payerOf (getD p i 0) < length l
+  seat = rw (u .members) (payer-under (getD p i 0))
+
+  -- finds one that leaves among those still to leave,
+  pub underway-more : getD l (payerOf (getD p i 0)) 0 ≢ 0 → 1 ≤ more
+  underway-more e = one-of-more l (getD p i 0) seat e (u .still)
+
+  -- enters it,
   pub underway-leave : getD l (payerOf (getD p i 0)) 0 ≢ 0
       → Underway used p xs₀ l₀ (moved xs (payerOf (getD p i 0)) (payeeOf (getD p i 0)) (amountOf (getD p i 0)))
-      (set l (payerOf (getD p i 0)) (getD l (payerOf (getD p i 0)) 0 - 1)) (i + 1)
+      (set l (payerOf (getD p i 0)) (getD l (payerOf (getD p i 0)) 0 - 1)) (more - 1) (i + 1)
   underway-leave e = record {
     within = omega arith;
     each = simp length-set (u .each);
     members = simp length-set (u .members);
-    left = ap (λ ws. entered xs ws) (sym (leaving-one l (getD p i 0) (drop (i + 1) (take used p)) (rw (u .members) (payer-under (getD p i 0))) e)) ∙ turn;
+    still = one-fewer l (getD p i 0) seat e (u .still);
+    left = ap (λ ws. entered xs ws) (sym (leaving-one l (getD p i 0) (drop (i + 1) (take used p)) seat e)) ∙ turn;
     near = λ k q. omega (
       arith,
       u .near k q,
@@ -148,6 +161,7 @@ module _ {used i : ℕ} {p l₀ l : List ℕ} {xs₀ xs : List ℤ} (g : Enterin
     );
   }
 
--- and has entered all at the end
-pub underway-end : {used i : ℕ} {p l₀ l : List ℕ} {xs₀ xs : List ℤ} → used ≤ i → Underway used p xs₀ l₀ xs l i → xs ≡ entered xs₀ (leaving (listed l₀) (take used p))
-underway-end {used} {i} {p} {l} {xs} h u = ap (λ ws. entered xs (leaving (listed l) ws)) (sym (drop-end used p i h)) ∙ u .left
+-- and has entered all at its end
+pub underway-end : {used more end i : ℕ} {p l₀ l : List ℕ} {xs₀ xs : List ℤ} → Underway used p xs₀ l₀ xs l more i → Ends used more end → end ≤ i
+    → xs ≡ entered xs₀ (leaving (listed l₀) (take used p))
+underway-end {i} {p} {l} {xs} u g h = ap (λ ws. entered xs ws) (sym (none-leaves p l i (u .members) (u .still) g h)) ∙ u .left

@@ -25,6 +25,11 @@ pub record Words (n : ℕ) (p : List ℕ) : Type 0 where
   pub few : n ≤ 2048
   pub small : Small n p
 
+-- a pass over the first n places may end at place `end`: before the last of them only if no more payments are to leave
+pub record Ends (n more end : ℕ) : Type 0 where
+  pub within : end ≤ n
+  pub early : end < n → more ≡ 0
+
 -- counters that can take the counts: none leaves its range
 pub record Countable (c counts : List ℕ) : Type 0 where
   pub broad : 512 ≤ length c

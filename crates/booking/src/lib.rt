@@ -17,7 +17,7 @@ ghost use Rattle.tables.specs.Layout.{countOf, houseOf};
 ghost use Rattle.tables.specs.Holds.{Accounts};
 ghost use Rattle.booking.specs.Booking.{listed, accountsBooked, countersBooked, paysBooked, coveredAll, Counted, Weighed};
 ghost use Rattle.finder.specs.Positions.{Entering};
-ghost use Rattle.booking.specs.Steps.{Words, Countable, entered, closedUp};
+ghost use Rattle.booking.specs.Steps.{Words, Countable, Ends, entered, closedUp};
 
 // Where the counted payments take each balance.
 pub fn weigh(accounts: &[i64], counters: &[u32], pays: &[u64], counts: &[u16]) -> [i64; 64]
@@ -99,37 +99,44 @@ fn copied(counts: &[u16]) -> [u16; 64]
     r
 }
 
-// Enters the payments that leave, of the first `used`, into positions that hold the balances. The counts are counted down.
+// Enters the payments that leave, of the first `used`, into positions that hold the balances. The counts are counted down, and the
+// places behind the last payment that leaves are not looked at.
 fn enter_leaving(pays: &[u64], used: usize, positions: &mut [i64], left: &mut [u16])
     requires { ⌜ Entering used (now pays) (now positions) ⌝ }
     requires { ⌜ length (now left) ≡ 64 ⌝ }
     ensures { λ _. ⌜ now (positions .exit) ≡ entered (now (positions .entry)) (leaving (listed (now (left .entry))) (take used (now (pays .entry)))) ⌝ }
 {
+    let mut more = tally(left);
+    let mut end = pass_end(used, more);
     let mut i = 0;
-    while i < used {
+    while i < end {
         let w = pays[i];
         let s = rule::payer_of(w);
         let z = left[s];
         if z != 0 {
             left[s] = z - 1;
+            more -= 1;
+            end = pass_end(used, more);
             finder::enter(positions, w);
         }
         i += 1;
     }
 }
 
-// Takes the payments that leave out of the first `used` places, and closes the gaps. The counts are counted down. Answers the sum of
-// the amounts that left.
+// Takes the payments that leave out of the first `used` places, and closes the gaps: what stands behind the last of them only moves
+// down. The counts are counted down. Answers the sum of the amounts that left.
 fn close_up(pays: &mut [u64], used: usize, left: &mut [u16]) -> u64
     requires { ⌜ Words used (now pays) ⌝ }
     requires { ⌜ length (now left) ≡ 64 ⌝ }
     ensures { λ r. ⌜ now (pays .exit) ≡ closedUp used (staying (listed (now (left .entry))) (take used (now (pays .entry)))) (now (pays .entry)) ⌝ }
     ensures { λ r. ⌜ r ≡ total amountOf (leaving (listed (now (left .entry))) (take used (now (pays .entry)))) ⌝ }
 {
+    let mut more = tally(left);
+    let mut end = pass_end(used, more);
     let mut sum = 0u64;
     let mut from = 0;
     let mut to = 0;
-    while from < used {
+    while from < end {
         let w = pays[from];
         let s = rule::payer_of(w);
         let z = left[s];
@@ -138,12 +145,41 @@ fn close_up(pays: &mut [u64], used: usize, left: &mut [u16]) -> u64
             to += 1;
         } else {
             left[s] = z - 1;
+            more -= 1;
+            end = pass_end(used, more);
             sum += rule::amount_of(w);
         }
         from += 1;
     }
-    clear(&mut pays[to..used]);
+    close_gap(&mut pays[to..used], from - to);
     sum
+}
+
+// Where a pass over the first `used` places ends: at once, when no more payments are to leave.
+fn pass_end(used: usize, more: u32) -> usize
+    ensures { λ r. ⌜ Ends used more r ⌝ }
+{
+    if more == 0 {
+        return 0;
+    }
+    used
+}
+
+// Closes a gap of so many places at the front: the rest moves down, and the places behind it are 0.
+fn close_gap(s: &mut [u64], gap: usize)
+    requires { do ⌜ gap ≤ (← ⟦s.len()⟧) ⌝ }
+    ensures { λ _. ⌜ now (s .exit) ≡ drop gap (now (s .entry)) ++ replicate gap 0 ⌝ }
+{
+    if gap == 0 {
+        return;
+    }
+    let rest = s.len() - gap;
+    let mut i = 0;
+    while i < rest {
+        s[i] = s[i + gap];
+        i += 1;
+    }
+    clear(&mut s[rest..]);
 }
 
 // Sets every place to 0.

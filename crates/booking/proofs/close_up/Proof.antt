@@ -1,5 +1,5 @@
 -- `booking::close_up` meets its contract. The loop's invariant: the places before `to`, with what stays of the places from `from` on, are all
--- that stays; and the sum, with what leaves of them, is the sum of all that leaves.
+-- that stays; the sum, with what leaves of them, is the sum of all that leaves; and the pass ends early only if no more are to leave.
 use mathlib.Core.Path.{sym, _∙_}
 use mathlib.Core.Logic.{⊎-elim}
 use Prim.Native.Nat.{_<_, _-_}
@@ -7,18 +7,27 @@ use native.Mathlib.Omega.{arith}
 use lib.ListN.{getD}
 use borrow.Author.Needs.{needs}
 use Rattle.finder.proofs.Tops.{payer-under}
-use Rattle.booking.proofs.Closing.{Closing, closing-start, closing-small, closing-keep, closing-go, closing-sum, closing-end}
+use Rattle.booking.specs.Steps.{Ends}
+use Rattle.booking.proofs.Closing.{Closing, closing-start, closing-small, closing-keep, closing-more, closing-go, closing-sum, closing-end}
 use Rattle.booking.proofs.close_up.Statement.{statement}
 use Rattle.booking.proofs.close_up.Tie as tie
 
 abbrev Inv-loop : tie.InvT-loop
-Inv-loop pays₀ used left₀ sum₀ from₀ to₀ pays left sum from to = Closing used pays₀ left₀ pays left sum from to
+Inv-loop pays₀ used left₀ more₀ end₀ sum₀ from₀ to₀ pays left more end sum from to = Closing used pays₀ left₀ pays left more sum from to × Ends used more end
 
 abbrev μ-loop : tie.MeasureT-loop
-μ-loop pays₀ used left₀ sum₀ from₀ to₀ pays left sum from to = used - from
+μ-loop pays₀ used left₀ more₀ end₀ sum₀ from₀ to₀ pays left more end sum from to = used - from
+
+tally-requires : tie.Need-tally-requires Inv-loop μ-loop
+tally-requires c κs = search needs
+
+pass-end-requires : tie.Need-pass-end-requires Inv-loop μ-loop
+pass-end-requires c κs = search needs
 
 loop-holds : tie.Need-loop-holds Inv-loop μ-loop
-loop-holds c = let s = c .before .before in closing-start (s .args .used) (s .args .pays .now) (s .args .left .now) (s .pre .1)
+loop-holds c =
+    let s = c .before .before .before .before .before in
+    (closing-start (s .args .used) (s .args .pays .now) (s .args .left .now) (s .pre .1) (c .before .tally .ensures), c .pass-end .ensures)
 
 mul-w : tie.Need-mul-w Inv-loop μ-loop
 mul-w c = search needs
@@ -36,7 +45,7 @@ mul-z : tie.Need-mul-z Inv-loop μ-loop
 mul-z c = omega (arith, seat c)
 
 slice-read-z : tie.Need-slice-read-z Inv-loop μ-loop
-slice-read-z c = omega (arith, seat (c .before), c .before .before .before .before .loop .inv .members)
+slice-read-z c = omega (arith, seat (c .before), c .before .before .before .before .loop .inv .0 .members)
 
 mul-pays : tie.Need-mul-pays Inv-loop μ-loop
 mul-pays c = search needs
@@ -54,17 +63,25 @@ mul-left : tie.Need-mul-left Inv-loop μ-loop
 mul-left c = omega (arith, seat (c .before .before))
 
 slice-write-left : tie.Need-slice-write-left Inv-loop μ-loop
-slice-write-left c = omega (arith, seat (c .before .before), c .before .before .before .before .before .loop .inv .members)
+slice-write-left c = omega (arith, seat (c .before .before), c .before .before .before .before .before .loop .inv .0 .members)
+
+sub-more : tie.Need-sub-more Inv-loop μ-loop
+sub-more c =
+    let l = c .before .before .before .before .before .loop in
+    closing-more (c .before .before .before .before .before .before .before .before .before .before .before .pre .0) (omega arith) (l .inv .0) (rw (c .before .before .payer-of .ensures) at (c .if1 .left))
+
+pass-end-requires-2 : tie.Need-pass-end-requires-2 Inv-loop μ-loop
+pass-end-requires-2 c κs = search needs
 
 amount-of-requires : tie.Need-amount-of-requires Inv-loop μ-loop
 amount-of-requires c κs = search needs
 
 add-sum : tie.Need-add-sum Inv-loop μ-loop
 add-sum c =
-    let s = c .before .before .before .before .before .before .before .before .before in
-    let l = c .before .before .before .before .before .before .loop in
+    let s = c .before .before .before .before .before .before .before .before .before .before .before .before .before in
+    let l = c .before .before .before .before .before .before .before .loop in
     let h : l .from < s .args .used = omega arith in
-    omega (arith, closing-small (s .pre .0) h (l .inv), s .pre .0 .few)
+    omega (arith, closing-small (s .pre .0) h (l .inv .0), s .pre .0 .few)
 
 add-from : tie.Need-add-from Inv-loop μ-loop
 add-from c = search needs
@@ -74,42 +91,45 @@ loop-less c = search needs
 
 loop-again : tie.Need-loop-again Inv-loop μ-loop
 loop-again c =
-    let s = c .before .before .before .before .before .before .before .before in
+    let s = c .before .before .before .before .before .before .before .before .before .before .before in
     let l = c .before .before .before .before .before .loop in
     let e = c .before .before .payer-of .ensures in
     let h : l .from < s .args .used = omega arith in
     ⊎-elim
-    (λ w. rw (w .1, w .2, w .3, w .4) (closing-keep (s .pre .0) h (l .inv) (rw e at (w .0 .taken))))
-    (λ w. rw (w .2, w .3, w .4, w .5, e, w .1 .ensures) (closing-go (s .pre .0) h (l .inv) (rw e at (w .0 .left))))
+    (λ w. rw (w .1, w .2, w .3, w .4, w .5, w .6) (closing-keep (s .pre .0) h (l .inv .0) (rw e at (w .0 .taken)), l .inv .1))
+    (λ w. rw (w .3, w .4, w .5, w .6, w .7, w .8, e, w .2 .ensures) (closing-go (s .pre .0) h (l .inv .0) (rw e at (w .0 .left)), w .1 .ensures))
     (c .if1 .came)
 
-mul-clear : tie.Need-mul-clear Inv-loop μ-loop
-mul-clear c = search needs
+mul-close-gap : tie.Need-mul-close-gap Inv-loop μ-loop
+mul-close-gap c = search needs
 
-sub-clear : tie.Need-sub-clear Inv-loop μ-loop
-sub-clear c = search needs
+sub-close-gap : tie.Need-sub-close-gap Inv-loop μ-loop
+sub-close-gap c = search needs
 
-part-clear-start : tie.Need-part-clear-start Inv-loop μ-loop
-part-clear-start c = search needs
+part-close-gap-start : tie.Need-part-close-gap-start Inv-loop μ-loop
+part-close-gap-start c = search needs
 
-part-clear-end : tie.Need-part-clear-end Inv-loop μ-loop
-part-clear-end c = search needs
+part-close-gap-end : tie.Need-part-close-gap-end Inv-loop μ-loop
+part-close-gap-end c = search needs
 
-clear-requires : tie.Need-clear-requires Inv-loop μ-loop
-clear-requires c κs = search needs
+sub-close-gap-2 : tie.Need-sub-close-gap-2 Inv-loop μ-loop
+sub-close-gap-2 c = search needs
+
+close-gap-requires : tie.Need-close-gap-requires Inv-loop μ-loop
+close-gap-requires c κs = search needs
 
 same-length : tie.Need-same-length Inv-loop μ-loop
 same-length c = search needs
 
 same-length-2 : tie.Need-same-length-2 Inv-loop μ-loop
-same-length-2 c = c .before .before .before .before .before .loop .inv .members ∙ sym (c .before .before .before .before .before .before .before .before .pre .1)
+same-length-2 c = c .before .before .before .before .before .loop .inv .0 .members ∙ sym (c .before .before .before .before .before .before .before .before .before .before .before .pre .1)
 
 returns : tie.Need-returns Inv-loop μ-loop
 returns c =
-    let s = c .before .before .before .before .before .before .before .before in
-    let l = c .before .before .before .before .before .loop in
+    let g = c .before .before .before .before .before .before .before .before .before .before .before .pre .0 in
+    let v = c .before .before .before .before .before .loop .inv in
     let h = c .before .before .before .before .loop-test .left in
-    (closing-end (s .pre .0) (omega arith) (l .inv) (c .before .before .clear .last .0) (c .before .before .clear .ensures), closing-sum (s .pre .0) (omega arith) (l .inv))
+    (closing-end g (v .1) (omega arith) (v .0) (c .before .before .close-gap .last .0) (c .before .before .close-gap .ensures), closing-sum g (v .1) (omega arith) (v .0))
 
 pub close-up-spec : {M : Type 1} → statement M
 close-up-spec =
@@ -117,6 +137,8 @@ close-up-spec =
     (tie.spec
     Inv-loop
     μ-loop
+    tally-requires
+    pass-end-requires
     loop-holds
     mul-w
     slice-read-w
@@ -129,16 +151,19 @@ close-up-spec =
     sub-left
     mul-left
     slice-write-left
+    sub-more
+    pass-end-requires-2
     amount-of-requires
     add-sum
     add-from
     loop-less
     loop-again
-    mul-clear
-    sub-clear
-    part-clear-start
-    part-clear-end
-    clear-requires
+    mul-close-gap
+    sub-close-gap
+    part-close-gap-start
+    part-close-gap-end
+    sub-close-gap-2
+    close-gap-requires
     same-length
     same-length-2
     returns)
