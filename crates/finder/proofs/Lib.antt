@@ -3,6 +3,7 @@ pub mod Links
 pub mod Positions
 pub mod Cover
 pub mod Off
+pub mod Steps
 pub mod Rounds
 pub mod Start
 pub mod Counts

@@ -67,13 +67,13 @@ off-ready {i} r k h t =
 counts-path : {f g : Counts} → ((i : ℕ) → f i ≡ g i) → f ≡ g
 counts-path e = λ k i. e i k
 
-counts-off : {pays : List ℕ} {s : ℕ} {xs ys : List ℤ} {ts us : List ℕ} (t : TakenOff pays s xs ys ts us) → s < length ts
+counts-off : {p : ℕ} {pays : List ℕ} {s : ℕ} {xs ys : List ℤ} {ts us : List ℕ} (t : TakenOff p pays s xs ys ts us) → s < length ts
     → countsOf pays us ≡ put (countsOf pays ts) s (length (queueOf s (take (t .place) pays)))
 counts-off {pays} {s} {ts} {us} t h = counts-path (λ i. put-all (λ m x. countsOf pays us m ≡ x) (countsOf pays ts) s (length (queueOf s (take (t .place) pays))) i
     (rw (t .tops, getD-set-same ts s (t .top) 0 h, t .same))
     (λ ne. rw (t .tops, getD-set-other ts s i (t .top) 0 ne)))
 
-module _ {used : ℕ} {pays : List ℕ} {xs ys lines : List ℤ} {ts us : List ℕ} {s : ℕ} (r : Ranges used pays xs lines ts) (inside : s < 64) (t : TakenOff pays s xs ys ts us) where
+module _ {used : ℕ} {pays : List ℕ} {xs ys lines : List ℤ} {ts us : List ℕ} {s p : ℕ} (r : Ranges used pays xs lines ts) (inside : s < 64) (t : TakenOff p pays s xs ys ts us) where
   payment-is : {n : ℕ} {H : House} → Stood n used H pays xs lines ts → s < n → getD (H .queue s) (length (queueOf s (take (t .place) pays))) 0 ≡ getD pays (t .place) 0
   payment-is st h = rw (st .queues s h) (last-stands (t .last) used (r .topped .within s inside))
 

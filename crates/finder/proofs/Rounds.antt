@@ -9,8 +9,8 @@ use lib.IntN.{ℤ}
 use Rattle.rule.specs.House.{House, LargestSet}
 use Rattle.rule.proofs.Find.{around-done}
 use Rattle.finder.specs.Tops.{countsOf, height}
-use Rattle.finder.specs.Finder.{Ranges, Stood, Ready, Keeps, NoneShort, FoundSet, Stepped, Went, Rounded}
-use Rattle.finder.proofs.Off.{else-covered, stood-off, height-off, ranges-off}
+use Rattle.finder.specs.Finder.{Ranges, Stood, Ready, Keeps, NoneShort, FoundSet, Fell, Stepped, Went, Rounded}
+use Rattle.finder.proofs.Off.{else-covered}
 
 -- the finder can go on from whatever it has kept
 pub ready-on : {n used : ℕ} {pays : List ℕ} {lines xs ys : List ℤ} {ts us : List ℕ}
@@ -22,32 +22,24 @@ ready-on d r k = record { members = d .members; ranges = r; house = d .house; st
 pub round-start : {n used : ℕ} {pays : List ℕ} {lines xs : List ℤ} {ts : List ℕ} → Ready n used pays xs lines ts → Rounded false n used 0 pays lines xs xs ts ts
 round-start d = record { ranges = d .ranges; keeps = λ H st. st; low = omega arith; went = record { none = λ i h. absurd (omega arith) } }
 
-module _ {any : Bool} {n used i : ℕ} {pays : List ℕ} {lines xs ys : List ℤ} {ts us : List ℕ} (members : n ≤ 64) (g : Rounded any n used i pays lines xs ys ts us) (h : i < n) where
-  off : {zs : List ℤ} {vs : List ℕ} → Stepped true pays i lines ys zs us vs → Rounded true n used (i + 1) pays lines xs zs ts vs
-  off (short, t) =
-      let inside : i < 64 = omega arith in
-      let falls : height _ < height us = height-off (g .ranges) inside t in
-      record {
-        ranges = ranges-off (g .ranges) inside t;
-        keeps = λ H st. stood-off (g .ranges) inside t (g .keeps H st) h short;
-        low = omega (arith, g .low);
-        went = omega (arith, g .low);
-      }
+module _ {any b : Bool} {n used i : ℕ} {pays : List ℕ} {lines xs ys zs : List ℤ} {ts us vs : List ℕ}
+    (g : Rounded any n used i pays lines xs ys ts us) (d : Stepped b n used i pays lines ys zs us vs) where
+  on : {w : Bool} → Went w (i + 1) zs lines ts vs → Rounded w n used (i + 1) pays lines xs zs ts vs
+  on w = record { ranges = d .ranges; keeps = λ H st. d .keeps H (g .keeps H st); low = omega (arith, g .low, d .low); went = w }
 
-  past : {zs : List ℤ} {vs : List ℕ} → Stepped false pays i lines ys zs us vs → Rounded any n used (i + 1) pays lines xs zs ts vs
-  past (left, e, d) = rw (e, d) (record { ranges = g .ranges; keeps = g .keeps; low = g .low; went = more any (g .went) })
-    where
-      more : (b : Bool) → Went b i ys lines ts us → Went b (i + 1) ys lines ts us
-      more true w = w
-      more false w = record { none = λ k l. elim (ℕ-discrete k i) [ yes q ↦ rw q left | no q ↦ w .none k (omega arith) ] }
+  past : Fell false i lines ys zs us vs → (w : Bool) → Went w i ys lines ts us → Went w (i + 1) zs lines ts vs
+  past (left, e, f) true l = rw f l
+  past (left, e, f) false l = rw e (record { none = λ k h. elim (ℕ-discrete k i) [ yes q ↦ rw q left | no q ↦ l .none k (omega arith) ] })
 
-  -- the member was short,
-  pub round-off : {b w : Bool} {zs : List ℤ} {vs : List ℕ} → b ≡ true → w ≡ true → Stepped b pays i lines ys zs us vs → Rounded w n used (i + 1) pays lines xs zs ts vs
-  round-off {zs} {vs} e d st = rw d (off (subst (λ (x : Bool). Stepped x pays i lines ys zs us vs) e st))
+  -- a payment was taken off,
+  pub round-off : {w : Bool} → b ≡ true → w ≡ true → Rounded w n used (i + 1) pays lines xs zs ts vs
+  round-off e q =
+      let l : height vs < height us = subst (λ (x : Bool). Fell x i lines ys zs us vs) e (d .fell) in
+      rw q (on {w = true} (omega (arith, g .low)))
 
-  -- or it was not
-  pub round-past : {b w : Bool} {zs : List ℤ} {vs : List ℕ} → b ≡ false → w ≡ any → Stepped b pays i lines ys zs us vs → Rounded w n used (i + 1) pays lines xs zs ts vs
-  round-past {zs} {vs} e d st = rw d (past (subst (λ (x : Bool). Stepped x pays i lines ys zs us vs) e st))
+  -- or the member was not short
+  pub round-past : {w : Bool} → b ≡ false → w ≡ any → Rounded w n used (i + 1) pays lines xs zs ts vs
+  round-past e q = rw q (on {w = any} (past (subst (λ (x : Bool). Fell x i lines ys zs us vs) e (d .fell)) any (g .went)))
 
 -- ---- the rounds
 

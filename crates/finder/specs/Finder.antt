@@ -75,19 +75,29 @@ pub record Off (pays befores : List ℕ) (xs : List ℤ) (ts : List ℕ) (i : �
 
 -- the last payment of member i was taken off: its amount went back from the payee, and the top is where it stood or below, with no
 -- payment of the member between
-pub record TakenOff (pays : List ℕ) (i : ℕ) (xs ys : List ℤ) (ts us : List ℕ) : Type 0 where
+pub record TakenOff (payee : ℕ) (pays : List ℕ) (i : ℕ) (xs ys : List ℤ) (ts us : List ℕ) : Type 0 where
   pub place : ℕ
   pub top : ℕ
   pub last : LastAt pays (getD ts i 0) i place
+  pub paid : payee ≡ payeeOf (getD pays place 0)
   pub low : top ≤ place
   pub same : queueOf i (take top pays) ≡ queueOf i (take place pays)
   pub positions : ys ≡ moved xs (payeeOf (getD pays place 0)) i (amountOf (getD pays place 0))
   pub tops : us ≡ set ts i top
 
--- member i was not short and nothing changed, or it was and its last payment was taken off
-abbrev pub Stepped : Bool → List ℕ → ℕ → List ℤ → List ℤ → List ℤ → List ℕ → List ℕ → Type 0
-Stepped false pays i lines xs ys ts us = (Short xs lines i ≡ false) × (ys ≡ xs) × (us ≡ ts)
-Stepped true pays i lines xs ys ts us = (Short xs lines i ≡ true) × TakenOff pays i xs ys ts us
+-- ---- a step
+
+-- member i was not short and nothing changed, or a payment was taken off
+abbrev pub Fell : Bool → ℕ → List ℤ → List ℤ → List ℤ → List ℕ → List ℕ → Type 0
+Fell false i lines xs ys ts us = (Short xs lines i ≡ false) × (ys ≡ xs) × (us ≡ ts)
+Fell true i lines xs ys ts us = height us < height ts
+
+-- a step was made from member i, and took a payment off or not
+pub record Stepped (any : Bool) (n used i : ℕ) (pays : List ℕ) (lines xs ys : List ℤ) (ts us : List ℕ) : Type 0 where
+  pub ranges : Ranges used pays ys lines us
+  pub keeps : Keeps n used pays lines xs ts ys us
+  pub low : height us ≤ height ts
+  pub fell : Fell any i lines xs ys ts us
 
 -- ---- a round
 

@@ -1,6 +1,6 @@
-// The finder of the largest allowed set. Everything is in at first; round by round the last payment of each short member is taken
-// off, until none is short. Which payments are in is told by the tops: those of a member that stand below its top. The befores lead from
-// each payment to just behind the same payer's payment before it.
+// The finder of the largest allowed set. Everything is in at first; round by round the last payment of each short member is taken off,
+// and of whoever is short then, until none is. Which payments are in is told by the tops: those of a member that stand below its top.
+// The befores lead from each payment to just behind the same payer's payment before it.
 ghost use mathlib.Core.Path.{_≡_};
 ghost use Prim.Native.Nat.{_+_, _<_, _≤_};
 ghost use lib.IntN.{pos, _-ℤ_};
@@ -73,7 +73,7 @@ pub fn count_below<'a>(pays: &'a [u64], used: usize, tops: &'a [usize]) -> [u16;
     counts
 }
 
-// One round: a payment off each short member. Whether there was one.
+// One round: a step from each member. Whether one took a payment off.
 fn round<'a>(
     pays: &'a [u64],
     used: usize,
@@ -98,7 +98,8 @@ fn round<'a>(
     any
 }
 
-// Takes a payment off the member if it is short. Whether it was.
+// Takes payments off the member while it is short, then off each payee who lost one, and so on: the payees to look at stand in the set
+// `due`, member i as 2^i. Whether a payment was taken off.
 fn step<'a>(
     pays: &'a [u64],
     used: usize,
@@ -112,15 +113,28 @@ fn step<'a>(
     requires { ⌜ Ready count used (now pays) (now positions) (now lines) (now tops) ⌝ }
     requires { ⌜ Linked used (now pays) (now befores) ⌝ }
     requires { ⌜ member < count ⌝ }
-    ensures { λ r. ⌜ Stepped r (now (pays .entry)) member (now (lines .entry)) (now (positions .entry)) (now (positions .exit)) (now (tops .entry)) (now (tops .exit)) ⌝ }
+    ensures { λ r. ⌜ Stepped r count used member (now (pays .entry)) (now (lines .entry)) (now (positions .entry)) (now (positions .exit)) (now (tops .entry)) (now (tops .exit)) ⌝ }
 {
-    let position = positions[member];
-    let line = lines[member];
-    if is_short(position, line) {
-        take_off(pays, positions, tops, befores, member);
-        return true;
+    let mut m = member;
+    let mut due = 0u64;
+    let mut taken = false;
+    loop {
+        if m < count {
+            let position = positions[m];
+            let line = lines[m];
+            if is_short(position, line) {
+                let payee = take_off(pays, positions, tops, befores, m);
+                due = due | (1u64 << payee);
+                taken = true;
+                continue;
+            }
+        }
+        if due == 0 {
+            return taken;
+        }
+        m = u64::trailing_zeros(due) as usize;
+        due = due & (due - 1);
     }
-    false
 }
 
 // Whether a position is below minus the line. Exactly there is enough.
@@ -132,15 +146,16 @@ pub fn is_short(position: i64, line: i64) -> bool
 }
 
 // Takes the member's last payment below its top off: the payer has the amount back, and the top is just behind the payment before.
+// Tells the payee, who lost the amount.
 fn take_off<'a>(
     pays: &'a [u64],
     positions: &mut [i64],
     tops: &mut [usize],
     befores: &'a [u16],
     member: usize,
-)
+) -> usize
     requires { ⌜ Off (now pays) (now befores) (now positions) (now tops) member ⌝ }
-    ensures { λ _. ⌜ TakenOff (now (pays .entry)) member (now (positions .entry)) (now (positions .exit)) (now (tops .entry)) (now (tops .exit)) ⌝ }
+    ensures { λ r. ⌜ TakenOff r (now (pays .entry)) member (now (positions .entry)) (now (positions .exit)) (now (tops .entry)) (now (tops .exit)) ⌝ }
 {
     let top = tops[member];
     let place = last_of(pays, top, member);
@@ -150,6 +165,7 @@ fn take_off<'a>(
     transfer(positions, payee, member, amount);
     let before = befores[place] as usize;
     tops[member] = before;
+    payee
 }
 
 // The place of the member's last payment below its top. It has one.

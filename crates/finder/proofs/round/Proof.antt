@@ -20,13 +20,9 @@ turn : (c : tie.Joined1 Inv-loop μ-loop) → let a = c .before .before .before 
     Rounded (c .if1 .any) (a .count) (a .used) (c .before .before .before .before .before .before .before .before .loop .member + 1) (a .pays .now) (a .lines .now)
     (a .positions .now) (c .before .before .before .before .step .last .1 .1 .0) (a .tops .now) (c .before .before .before .before .step .last .1 .1 .1 .1 .0)
 turn c =
-    let s = c .before .before .before .before .before .before .before .before .before .before .before .before in
     let g = c .before .before .before .before .before .before .before .before .loop .inv .3 in
-    let d = c .before .before .before .before .step in
-    ⊎-elim
-    (λ w. round-off (s .pre .0 .members) g (omega arith) (w .0 .taken) (w .1) (d .ensures))
-    (λ w. round-past (s .pre .0 .members) g (omega arith) (w .0 .left) (w .1) (d .ensures))
-    (c .if1 .came)
+    let d = c .before .before .before .before .step .ensures in
+    ⊎-elim (λ w. round-off g d (w .0 .taken) (w .1)) (λ w. round-past g d (w .0 .left) (w .1)) (c .if1 .came)
 
 loop-holds : tie.Need-loop-holds Inv-loop μ-loop
 loop-holds c = (refl, refl, omega arith, round-start (c .before .before .before .pre .0))

@@ -1,68 +1,142 @@
--- `finder::step` meets its contract: what `is_short` tells of the position and the line is whether the member is short.
+-- `finder::step` meets its contract. The loop's invariant: the step from the member has come to `m`. The measure is the sum of the tops,
+-- and where that stays the set of those due.
 use mathlib.Core.Path.{_≡_, refl, sym, _∙_}
+use mathlib.Core.Bool.{false}
+use mathlib.Core.Logic.{⊎-elim}
+use Prim.Native.Nat.{ℕ, _+_, _-_, _*_, _%_, _^_, _≤_, _<_}
 use native.Mathlib.Omega.{arith}
+use lib.Bits.{bitAnd, bitOr, or-lt, and-le-r}
+use lib.Count.{trailing-le}
 use lib.IntN.{pos}
-use lib.ListN.{getD}
+use lib.ListN.{length, getD}
 use Rattle.rule.proofs.Ints.{plain, held, nonneg-of}
+use Rattle.finder.specs.Tops.{height}
 use Rattle.finder.specs.Finder.{Short}
-use Rattle.finder.proofs.Off.{off-ready}
+use Rattle.finder.proofs.Tops.{payee-under}
+use Rattle.finder.proofs.Off.{height-off, off-ready}
+use Rattle.finder.proofs.Steps.{Stepping, step-start, step-off, step-next, step-end}
+use Rattle.finder.proofs.Rounds.{ready-on}
 use borrow.Author.Needs.{needs}
 use Rattle.finder.proofs.step.Statement.{statement}
 use Rattle.finder.proofs.step.Tie as tie
 
-told : (d : tie.After-is-short) → let a = d .before .before .before .before .before .before .args in Short (a .positions .now) (a .lines .now) (a .member) ≡ d .is-short .result
+abbrev Inv-loop : tie.InvT-loop
+Inv-loop pays used positions₀ lines tops₀ befores count member m₀ due₀ taken₀ positions tops m due taken = (length positions ≡ length positions₀) × (length tops ≡ length tops₀) × (due < 2 ^ 64) × Stepping taken count used member m due pays lines positions₀ positions tops₀ tops
+
+abbrev μ-loop : tie.MeasureT-loop
+μ-loop pays used positions₀ lines tops₀ befores count member m₀ due₀ taken₀ positions tops m due taken = height tops * 2 ^ 64 + due
+
+told : (d : tie.After-is-short Inv-loop μ-loop) → let l = d .before .before .before .before in
+    Short (l .loop .positions) (l .before .before .before .before .args .lines .now) (l .loop .m) ≡ d .is-short .result
 told d =
-    let s = d .before .before .before .before .before .before in
-    let f = held (getD (s .args .positions .now) (s .args .member) (pos 0)) (d .before .before .position .given) in
-    let g = held (getD (s .args .lines .now) (s .args .member) (pos 0)) (d .before .line .given) in
+    let l = d .before .before .before .before in
+    let f = held (getD (l .loop .positions) (l .loop .m) (pos 0)) (d .before .before .position .given) in
+    let g = held (getD (l .before .before .before .before .args .lines .now) (l .loop .m) (pos 0)) (d .before .line .given) in
     sym (simp (plain, f, g) at (d .is-short .ensures))
 
-mul-position : tie.Need-mul-position
+long : (d : tie.Joined1 Inv-loop μ-loop) → let l = d .before in let a = l .before .before .before .before .args in
+    l .loop .m < a .count → Short (l .loop .positions) (a .lines .now) (l .loop .m) ≡ false
+long d h = ⊎-elim
+    (λ w. told (record { before = record { before = record { before = record { before = d .before; if1 = w .0 }; position = w .1 }; line = w .2 }; is-short = w .3 }) ∙ w .4 .left)
+    (λ w. absurd (omega arith))
+    (d .if1 .came)
+
+more : (l : tie.At-loop Inv-loop μ-loop) (k : ℕ) → bitOr (l .loop .due) (1 * 2 ^ k % 2 ^ 64) < 2 ^ 64
+more l k = or-lt 64 (l .loop .due) (1 * 2 ^ k % 2 ^ 64) (l .loop .inv .2) (omega arith)
+
+fewer : (l : tie.At-loop Inv-loop μ-loop) → bitAnd (l .loop .due) (l .loop .due - 1) ≤ l .loop .due - 1
+fewer l = and-le-r (l .loop .due) (l .loop .due - 1)
+
+loop-holds : tie.Need-loop-holds Inv-loop μ-loop
+loop-holds c = (refl, refl, omega arith, step-start (c .before .before .before .pre .0))
+
+mul-position : tie.Need-mul-position Inv-loop μ-loop
 mul-position c = search needs
 
-slice-copy-out-position : tie.Need-slice-copy-out-position
+slice-copy-out-position : tie.Need-slice-copy-out-position Inv-loop μ-loop
 slice-copy-out-position c = search needs
 
-mul-line : tie.Need-mul-line
+mul-line : tie.Need-mul-line Inv-loop μ-loop
 mul-line c = search needs
 
-shared-slice-copy-out-line : tie.Need-shared-slice-copy-out-line
+shared-slice-copy-out-line : tie.Need-shared-slice-copy-out-line Inv-loop μ-loop
 shared-slice-copy-out-line c = search needs
 
-is-short-requires : tie.Need-is-short-requires
+is-short-requires : tie.Need-is-short-requires Inv-loop μ-loop
 is-short-requires c κs =
-    let s = c .before .before .before .before .before in
-    let f = held (getD (s .args .lines .now) (s .args .member) (pos 0)) (c .line .given) in
-    simp (plain, f) (rw (s .pre .0 .stood .line (s .args .member) (s .pre .1 .1)) (nonneg-of (pos _) (omega arith)))
+    let l = c .before .before .before in
+    let s = l .before .before .before .before in
+    let f = held (getD (s .args .lines .now) (l .loop .m) (pos 0)) (c .line .given) in
+    simp (plain, f) (rw (s .pre .0 .stood .line (l .loop .m) (omega arith)) (nonneg-of (pos _) (omega arith)))
 
-take-off-requires : tie.Need-take-off-requires
+take-off-requires : tie.Need-take-off-requires Inv-loop μ-loop
 take-off-requires c κs =
-    let s = c .before .before .before .before .before .before .before .before .before in
-    off-ready (s .pre .0) (s .pre .1 .0) (s .pre .1 .1) (told (c .before .before .before) ∙ c .before .before .if1 .taken)
+    let l = c .before .before .before .before .before .before .before in
+    let s = l .before .before .before .before in
+    let g = l .loop .inv .3 in
+    off-ready (ready-on (s .pre .0) (g .ranges) (g .keeps)) (s .pre .1 .0) (omega arith) (told (c .before .before .before) ∙ c .before .before .if2 .taken)
 
-same-length : tie.Need-same-length
+shl-due : tie.Need-shl-due Inv-loop μ-loop
+shl-due c =
+    let l = c .before .before .before .before .before .before .before .before .before .before .before in
+    let t = c .before .before .before .take-off .ensures in
+    omega (arith, t .paid, payee-under (getD (l .before .before .before .before .args .pays .now) (t .place) 0))
+
+loop-less : tie.Need-loop-less Inv-loop μ-loop
+loop-less c =
+    let l = c .before .before .before .before .before .before .before .before .before .before .before in
+    omega (arith, height-off (l .loop .inv .3 .ranges) (omega arith) (c .before .before .before .take-off .ensures), more l (c .before .before .before .take-off .result))
+
+loop-again : tie.Need-loop-again Inv-loop μ-loop
+loop-again c =
+    let l = c .before .before .before .before .before .before .before .before .before .before .before in
+    let p = l .before .before .before .before .pre .0 .ranges in
+    let g = step-off (l .loop .inv .3) (omega arith) (omega arith)
+    (told (c .before .before .before .before .before .before .before) ∙ c .before .before .before .before .before .before .if2 .taken)
+    (c .before .before .before .take-off .ensures) in
+    (g .ranges .each-position ∙ sym (p .each-position), g .ranges .topped .each ∙ sym (p .topped .each), more l (c .before .before .before .take-off .result), g)
+
+same-length : tie.Need-same-length Inv-loop μ-loop
 same-length c = search needs
 
-same-length-2 : tie.Need-same-length-2
+same-length-2 : tie.Need-same-length-2 Inv-loop μ-loop
 same-length-2 c = search needs
 
-returns : tie.Need-returns
-returns c = (told (c .before .before .before .before .before .before .before) ∙ c .before .before .before .before .before .before .if1 .taken, c .before .before .before .take-off .ensures)
+returns : tie.Need-returns Inv-loop μ-loop
+returns c = step-end (c .before .before .loop .inv .3) (c .before .before .before .before .before .before .pre .1 .1) (long (c .before))
 
-returns-2 : tie.Need-returns-2
-returns-2 c = (told (c .before) ∙ c .if1 .left, refl, refl)
+cast-m : tie.Need-cast-m Inv-loop μ-loop
+cast-m c = omega (arith, trailing-le 64 (c .before .before .loop .due))
+
+sub-due : tie.Need-sub-due Inv-loop μ-loop
+sub-due c = search needs
+
+loop-less-2 : tie.Need-loop-less-2 Inv-loop μ-loop
+loop-less-2 c = omega (arith, fewer (c .before .before))
+
+loop-again-2 : tie.Need-loop-again-2 Inv-loop μ-loop
+loop-again-2 c = (c .before .before .loop .inv .0, c .before .before .loop .inv .1, omega (arith, fewer (c .before .before)), step-next (c .before .before .loop .inv .3) (c .if3 .left))
 
 pub step-spec : {M : Type 1} → statement M
 step-spec =
     tie.close
     (tie.spec
+    Inv-loop
+    μ-loop
+    loop-holds
     mul-position
     slice-copy-out-position
     mul-line
     shared-slice-copy-out-line
     is-short-requires
     take-off-requires
+    shl-due
+    loop-less
+    loop-again
     same-length
     same-length-2
     returns
-    returns-2)
+    cast-m
+    sub-due
+    loop-less-2
+    loop-again-2)

@@ -65,6 +65,7 @@ returns c =
       place = l .result;
       top = getD (c .before .before .before .before .before .before .before .before .before .before .before .before .args .befores .now) (l .result) 0;
       last = l .ensures;
+      paid = c .before .before .before .before .before .payee-of .ensures;
       low = k .back (l .result) (l .ensures .under);
       same = rw (l .ensures .payer) at (k .same (l .result) (l .ensures .under));
       positions = c .before .before .transfer .ensures ∙ rw (c .before .before .before .before .before .payee-of .ensures, c .before .before .before .before .amount-of .ensures);
