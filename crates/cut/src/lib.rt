@@ -6,7 +6,7 @@ ghost use Rattle.cut.specs.Lines.{mostBytes};
 ghost use Rattle.cut.specs.Chunks.{pushed, eatOf, stateOf, Ready};
 
 // The most bytes of a line, before the byte 10.
-const MOST_BYTES: usize = 400;
+pub const MOST_BYTES: usize = 400;
 
 // What is held of the line that is not ended: how many bytes stand in the lent buffer, and whether there were more than 400.
 pub struct Cut {

@@ -8,7 +8,7 @@ ghost use Rattle.night.specs.Lines.{tables};
 ghost use Rattle.sheet.specs.Feeding.{Fit};
 ghost use Rattle.nightsheet.specs.Sizes.{outBytes, Lent};
 
-// The bytes of the output that is written at once.
+// The bytes that are read at once, and those of the output that is written at once.
 const OUT: usize = 4096;
 
 // The night so far, and whether all went well with reading and writing.
@@ -18,13 +18,13 @@ struct Run {
 }
 
 fn main() {
-    let mut chunk = [0u8; 4096];
-    let mut buf = [0u8; 400];
+    let mut chunk = [0u8; OUT];
+    let mut buf = [0u8; cut::MOST_BYTES];
     let mut counts = [0u64; 64];
     let mut accounts = [0i64; 512];
     let mut counters = [0u32; 512];
     let mut pays = [0u64; 2048];
-    let mut out = [0u8; 4096];
+    let mut out = [0u8; OUT];
     whole(
         &mut chunk,
         &mut buf,
@@ -161,7 +161,7 @@ fn close_all(
 fn is_full(s: State) -> bool
     requires { ⌜ s .used ≤ outBytes ⌝ }
 {
-    OUT - s.used < 80
+    !print::has_room(s.used, OUT)
 }
 
 // Nothing more is to be read or said: the night is over, or something failed.

@@ -4,10 +4,10 @@ use mathlib.Core.Path.{_≡_, refl, sym, ap, _∙_, subst}
 use mathlib.Core.Bool.{Bool, true, false, cond}
 use mathlib.Core.List.{List, [], _∷_, _++_, append-nil}
 use Prim.Native.Nat.{ℕ, zero, suc, _+_, _-_, _≤_, _<_}
-use lib.Dec.{ltb}
+use lib.Dec.{leb, ltb}
 use lib.ListN.{length, take, drop, set, length-append, length-drop, drop-of-length-le}
 use lib.Seq.{take-at, length-take-le, sets-eq, sets}
-use borrow.Author.Tests.{lt-ltb, le-ltb, ltb-true, ltb-false}
+use borrow.Author.Tests.{lt-ltb, le-ltb, ltb-true, ltb-false, le-leb, lt-leb, leb-true, leb-false}
 use borrow.Rule.Slice.PartMut.{putMid}
 use Rattle.numbers.proofs.Reading.{rest-all}
 use Rattle.print.specs.declared.Put.{Put}
@@ -15,7 +15,7 @@ use Rattle.print.specs.declared.Put.the-variants.{Wrote, Full}
 use Rattle.print.specs.declared.Row.{Row}
 use Rattle.print.specs.declared.Says.{Says}
 use Rattle.print.specs.Lines.{Parts, tabbed, lineText, textOf, partsIn, partsOf}
-use Rattle.print.specs.Room.{leastRoom, putOf, afterPut, Ranges, AllShort}
+use Rattle.print.specs.Room.{leastRoom, hasRoom, putOf, afterPut, Ranges, AllShort}
 use Rattle.print.proofs.Texts.{sets-append}
 use Rattle.print.proofs.Ranges.{all-short, text-le}
 
@@ -117,3 +117,11 @@ module _ (s : Says) (g : Ranges s) (out : List ℕ) (at : ℕ) (h : at ≤ lengt
       let n : length (take at out) ≡ at = length-take-le at out h in
       rw (wrote-after, sets-eq t out at wrote-within)
       (take-at (take at out ++ t) (drop (at + length t) out) (at + length t) (simp length-append (omega arith)))
+
+-- 80 bytes are left behind what is used
+pub room-at : (used n : ℕ) → used ≤ n → leb leastRoom (n - used) ≡ hasRoom n used
+room-at used n l = go (leb (used + leastRoom) n) refl
+  where
+    go : (b : Bool) → leb (used + leastRoom) n ≡ b → leb leastRoom (n - used) ≡ b
+    go true e = let h = leb-true (used + leastRoom) n e in le-leb leastRoom (n - used) (omega arith)
+    go false e = let h = leb-false (used + leastRoom) n e in lt-leb leastRoom (n - used) (omega arith)

@@ -1,8 +1,8 @@
 -- Writing a line of the sheet into the unused rest of the lent output (document 01, code 13), and the ranges that keep a line short.
-use Prim.Native.Nat.{ℕ, _^_, _<_}
-use mathlib.Core.Bool.{cond}
+use Prim.Native.Nat.{ℕ, _+_, _^_, _<_}
+use mathlib.Core.Bool.{Bool, cond}
 use mathlib.Core.List.{List, [], _∷_}
-use lib.Dec.{ltb}
+use lib.Dec.{leb, ltb}
 use lib.ListN.{length}
 use lib.Seq.{sets}
 use lib.IntN.{ℤ, natAbs}
@@ -15,6 +15,10 @@ use Rattle.print.specs.declared.Says.the-variants as S
 -- the bytes that must be left for a line, which has no more
 abbrev pub leastRoom : ℕ
 leastRoom = 80
+
+-- n bytes have room for a line behind what is used
+abbrev pub hasRoom : ℕ → ℕ → Bool
+hasRoom n used = leb (used + leastRoom) n
 
 -- the answer, where so many bytes are left: how many were written
 abbrev pub putOf : ℕ → List ℕ → Put

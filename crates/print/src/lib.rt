@@ -8,7 +8,7 @@ ghost use lib.ListN.{length};
 ghost use lib.Seq.{sets};
 ghost use Rattle.numbers.specs.Numbers.{mostDigits};
 ghost use Rattle.print.specs.Lines.{startText, shownIf, partsOf, partsIn, tabbed, lineText, textOf};
-ghost use Rattle.print.specs.Room.{putOf, afterPut, Ranges, AllShort};
+ghost use Rattle.print.specs.Room.{hasRoom, putOf, afterPut, Ranges, AllShort};
 
 // The bytes that must be left for a line.
 const LEAST_ROOM: usize = 80;
@@ -61,6 +61,14 @@ struct Row {
     word: [u8; 9],
     many: usize,
     numbers: [i64; 5],
+}
+
+// Whether there is room for a line behind what is used of n bytes.
+pub fn has_room(used: usize, n: usize) -> bool
+    requires { ⌜ used ≤ n ⌝ }
+    ensures { λ r. ⌜ r ≡ hasRoom n used ⌝ }
+{
+    n - used >= LEAST_ROOM
 }
 
 // Writes a line of the sheet into the output, of which at bytes are used.

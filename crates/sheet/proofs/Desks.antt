@@ -12,7 +12,7 @@ use Rattle.cut.specs.Lines.{mostBytes}
 use Rattle.cut.specs.Chunks.{Held, none, lineOf, stateOf, eatOf}
 use Rattle.cut.proofs.Chunks.{eats}
 use Rattle.tables.proofs.Tests.{and-both}
-use Rattle.print.specs.Room.{leastRoom}
+use Rattle.print.specs.Room.{leastRoom, hasRoom}
 use Rattle.night.specs.declared.Stage.{Stage}
 use Rattle.night.specs.declared.Stage.the-variants as G
 use Rattle.night.specs.Lines.{Tables}
@@ -20,7 +20,7 @@ use Rattle.sheet.specs.declared.State.{State}
 use Rattle.sheet.specs.declared.Turn.{Turn}
 use Rattle.sheet.specs.Sheet.{Night, isEnding, isOver, stopped, answered}
 use Rattle.sheet.specs.Stops.{Runs}
-use Rattle.sheet.specs.Turns.{Desk, endSaid, eatTurn, turnOf, lastOf, closeTurn, hasRoom, isOn, goesOn, closesOn}
+use Rattle.sheet.specs.Turns.{Desk, endSaid, eatTurn, turnOf, lastOf, closeTurn, isOn, goesOn, closesOn}
 use Rattle.sheet.specs.Feeding.{nightOf, deskOf, fresh, goesAt, closesAt, turnsLeft, Grown, Fit}
 use Rattle.sheet.proofs.Stopping.{runs-none, runs-next}
 use Rattle.sheet.proofs.Writing.{grown-none, grown-more}

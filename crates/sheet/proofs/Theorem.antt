@@ -13,14 +13,14 @@ use lib.ListN.{length}
 use Rattle.cut.specs.Chunks.{Fed, feedOf, feedAll, finish, joined}
 use Rattle.cut.proofs.Chunks.{feed-append, feed-lines, chunks}
 use Rattle.tables.proofs.Tests.{and-both}
-use Rattle.print.specs.Room.{leastRoom}
+use Rattle.print.specs.Room.{leastRoom, hasRoom}
 use Rattle.night.specs.declared.Stage.{Stage}
 use Rattle.night.specs.declared.Stage.the-variants as G
 use Rattle.night.specs.Lines.{Tables}
 use Rattle.sheet.specs.declared.State.{State}
 use Rattle.sheet.specs.Sheet.{Night, finished, isEnding, isOver, stepOf, morning, closed, sheetOf}
 use Rattle.sheet.specs.Stops.{Stops}
-use Rattle.sheet.specs.Turns.{Desk, endTurn, turnOf, lastTurn, closeTurn, hasRoom, isOn, goesOn, closesOn, fedOf, comesTo, closesTo}
+use Rattle.sheet.specs.Turns.{Desk, endTurn, turnOf, lastTurn, closeTurn, isOn, goesOn, closesOn, fedOf, comesTo, closesTo}
 use Rattle.sheet.specs.Feeding.{deskOf, dawn}
 use Rattle.sheet.specs.Session.{firstDesk, cleared, Session, begun, hands, feeds, writes, closes}
 use Rattle.sheet.proofs.Stopping.{stops-same}

@@ -5,8 +5,6 @@ use mathlib.Core.Bool.{Bool, true, false}
 use mathlib.Core.List.{List, _++_}
 use Prim.Native.Nat.{ℕ, _+_, _-_, _≤_}
 use native.Mathlib.Omega.{arith}
-use borrow.Author.Tests.{leb-true, leb-false, le-leb, lt-leb}
-use lib.Dec.{leb}
 use lib.ListN.{length, take, drop, length-append}
 use lib.Seq.{sets, sets-eq, take-at, drop-at, drop-drop, length-take-le}
 use Rattle.print.specs.declared.Put.{Put}
@@ -23,7 +21,6 @@ use Rattle.night.specs.declared.Said.{Said}
 use Rattle.night.specs.declared.Said.the-variants as D
 use Rattle.night.specs.Stands.{SaidRanges}
 use Rattle.sheet.specs.Sheet.{entryIn, countsIn}
-use Rattle.sheet.specs.Turns.{hasRoom}
 use Rattle.sheet.specs.Feeding.{Grown}
 
 sets-behind : (out : List ℕ) (at : ℕ) (v : List ℕ) → at + length v ≤ length out → drop (at + length v) (sets out at v) ≡ drop (at + length v) out
@@ -54,14 +51,6 @@ pub grown-more : {u v w : ℕ} {out out₁ out₂ : List ℕ} → Grown u v out 
 grown-more {u} {v} {w} {out} {out₁} a b =
     let e : v + (w - v) ≡ w = omega (arith, b .on) in
     record { on = omega (arith, a .on, b .on); rest = b .rest ∙ subst (λ (k : ℕ). drop k out₁ ≡ drop k out) e (sym (drop-drop (w - v) v out₁) ∙ ap (drop (w - v)) (a .rest) ∙ drop-drop (w - v) v out) }
-
--- 80 bytes are left behind what is used
-pub room-at : (used n : ℕ) → used ≤ n → leb leastRoom (n - used) ≡ hasRoom n used
-room-at used n l = go (leb (used + leastRoom) n) refl
-  where
-    go : (b : Bool) → leb (used + leastRoom) n ≡ b → leb leastRoom (n - used) ≡ b
-    go true e = let h = leb-true (used + leastRoom) n e in le-leb leastRoom (n - used) (omega arith)
-    go false e = let h = leb-false (used + leastRoom) n e in lt-leb leastRoom (n - used) (omega arith)
 
 -- what is said is in its ranges
 pub said-ranges : (g : Said) (s : Says) → g ≡ D.One s → SaidRanges g → Ranges s

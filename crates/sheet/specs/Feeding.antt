@@ -5,6 +5,7 @@ use mathlib.Core.List.{List}
 use Prim.Native.Nat.{ℕ, _+_, _-_, _≤_}
 use lib.Dec.{ltb}
 use lib.ListN.{take, drop}
+use Rattle.print.specs.Room.{hasRoom}
 use Rattle.cut.specs.Lines.{mostBytes}
 use Rattle.cut.specs.declared.Cut.{Cut}
 use Rattle.cut.specs.Chunks.{stateOf}
@@ -15,7 +16,7 @@ use Rattle.night.specs.Stands.{Stands}
 use Rattle.sheet.specs.declared.State.{State}
 use Rattle.sheet.specs.declared.Turn.{Turn}
 use Rattle.sheet.specs.Sheet.{mostLines, Night, isOver}
-use Rattle.sheet.specs.Turns.{Desk, hasRoom, isOn}
+use Rattle.sheet.specs.Turns.{Desk, isOn}
 
 -- the night that a state, the tables and the lent output hold
 abbrev pub nightOf : State → Tables → List ℕ → Night

@@ -3,10 +3,10 @@
 use mathlib.Core.Bool.{Bool, cond, not, _&&_, _||_}
 use mathlib.Core.List.{List, [], _∷_, _++_}
 use Prim.Native.Nat.{ℕ, _+_}
-use lib.Dec.{ltb, leb}
+use lib.Dec.{ltb}
 use lib.ListN.{length, take, drop}
 use Rattle.cut.specs.Chunks.{Held, none, lineOf, Eaten, eatOf, Fed, feedOf, finish}
-use Rattle.print.specs.Room.{leastRoom}
+use Rattle.print.specs.Room.{hasRoom}
 use Rattle.night.specs.declared.Stage.{Stage}
 use Rattle.night.specs.declared.Stage.the-variants as G
 use Rattle.night.specs.Lines.{Tables, endNext}
@@ -73,10 +73,6 @@ abbrev pub closeTurn : Desk → Desk
 closeTurn d = cond (isEnding (d .night .stage)) (endTurn d) (lastTurn d)
 
 -- ---- where it stops
-
--- room for a line behind so many bytes of n
-abbrev pub hasRoom : ℕ → ℕ → Bool
-hasRoom n used = leb (used + leastRoom) n
 
 -- lines of the end are to be said, or the night is not over and there are bytes
 abbrev pub isOn : Stage → Bool → Bool

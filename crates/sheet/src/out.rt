@@ -10,19 +10,7 @@ ghost use Rattle.print.specs.Lines.{textOf};
 ghost use Rattle.print.specs.Room.{leastRoom, Ranges};
 ghost use Rattle.night.specs.Stands.{SaidRanges};
 ghost use Rattle.sheet.specs.Sheet.{saidText};
-ghost use Rattle.sheet.specs.Turns.{hasRoom};
 ghost use Rattle.sheet.specs.Feeding.{Grown};
-
-// The bytes of output that must be left before a turn.
-const LEAST_ROOM: usize = 80;
-
-// Whether there is room for a line behind what is used of n bytes.
-pub fn has_room(used: usize, n: usize) -> bool
-    requires { ⌜ used ≤ n ⌝ }
-    ensures { λ r. ⌜ r ≡ hasRoom n used ⌝ }
-{
-    n - used >= LEAST_ROOM
-}
 
 // What a line says goes behind what is used, and gives what is used then.
 pub fn tell(out: &mut [u8], used: usize, said: Said) -> usize

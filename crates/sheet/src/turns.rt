@@ -6,7 +6,6 @@ use crate::ends::is_ending;
 use crate::is_over;
 use crate::lines::line_on;
 use crate::lines::stop;
-use crate::out::has_room;
 ghost use mathlib.Core.Path.{_≡_};
 ghost use mathlib.Core.Bool.{true, false};
 ghost use mathlib.Core.List.{[]};
@@ -26,7 +25,7 @@ pub fn goes_on(t: Turn, n: usize, room: usize) -> bool
     ensures { λ r. ⌜ r ≡ goesAt n room t ⌝ }
 {
     let s = t.state;
-    if !has_room(s.used, room) {
+    if !print::has_room(s.used, room) {
         return false;
     }
     let stage = s.stage;
@@ -44,7 +43,7 @@ pub fn closes_on(s: State, room: usize) -> bool
     requires { ⌜ s .used ≤ room ⌝ }
     ensures { λ r. ⌜ r ≡ closesAt room s ⌝ }
 {
-    if !has_room(s.used, room) {
+    if !print::has_room(s.used, room) {
         return false;
     }
     let stage = s.stage;

@@ -1,8 +1,8 @@
--- `sheet::out::has_room` meets its contract: no loop.
-use Rattle.sheet.proofs.Writing.{room-at}
+-- `print::has_room` meets its contract: no loop.
+use Rattle.print.proofs.Room.{room-at}
 use borrow.Author.Needs.{needs}
-use Rattle.sheet.proofs.out.has_room.Statement.{statement}
-use Rattle.sheet.proofs.out.has_room.Tie as tie
+use Rattle.print.proofs.has_room.Statement.{statement}
+use Rattle.print.proofs.has_room.Tie as tie
 
 sub-result : tie.Need-sub-result
 sub-result c = search needs
