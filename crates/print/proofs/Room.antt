@@ -9,13 +9,14 @@ use lib.ListN.{length, take, drop, set, length-append, length-drop, drop-of-leng
 use lib.Seq.{take-at, length-take-le, sets-eq, sets}
 use borrow.Author.Tests.{lt-ltb, le-ltb, ltb-true, ltb-false, le-leb, lt-leb, leb-true, leb-false}
 use borrow.Rule.Slice.PartMut.{putMid}
+use Rattle.answers.specs.declared.Refusal.{Refusal}
 use Rattle.numbers.proofs.Reading.{rest-all}
 use Rattle.print.specs.declared.Put.{Put}
-use Rattle.print.specs.declared.Put.the-variants.{Wrote, Full}
+use Rattle.print.specs.declared.Put.the-variants.{Wrote, Refused}
 use Rattle.print.specs.declared.Row.{Row}
 use Rattle.print.specs.declared.Says.{Says}
 use Rattle.print.specs.Lines.{Parts, tabbed, lineText, textOf, partsIn, partsOf}
-use Rattle.print.specs.Room.{leastRoom, hasRoom, putOf, afterPut, Ranges, AllShort}
+use Rattle.print.specs.Room.{leastRoom, hasRoom, noRoom, putOf, putCode, afterPut, Ranges, AllShort}
 use Rattle.print.proofs.Texts.{sets-append}
 use Rattle.print.proofs.Ranges.{all-short, text-le}
 
@@ -39,7 +40,7 @@ module _ (p : Parts) (l l₁ l₂ l₃ l₄ : List ℕ) (a b c e : ℕ) where
       d
 
 -- a row into the rest
-pub full-put : (out text : List ℕ) → length out < leastRoom → (Full ≡ putOf (length out) text) × (out ≡ afterPut (length out) out 0 text)
+pub full-put : (out text : List ℕ) → length out < leastRoom → (noRoom ≡ putOf (length out) text) × (out ≡ afterPut (length out) out 0 text)
 full-put out text h = rw (lt-ltb (length out) leastRoom h) (refl, refl)
 
 module _ (r : Row) (s : Says) (e : partsIn r ≡ partsOf s) (out : List ℕ) (h : leastRoom ≤ length out) where
@@ -79,10 +80,10 @@ module _ (out : List ℕ) (at : ℕ) (h : at ≤ length out) where
       (a ∙ ap (λ (k : ℕ). putOf k text) n, rest-back t ∙ rw u (rest-by text (ltb (length out - at) leastRoom)))
 
 -- what the answer tells
-put-by : (room : ℕ) (text : List ℕ) (P : Put → Type 0) → (room < leastRoom → P Full) → (leastRoom ≤ room → P (Wrote (length text))) → P (putOf room text)
+put-by : (room : ℕ) (text : List ℕ) (P : Put → Type 0) → (room < leastRoom → P noRoom) → (leastRoom ≤ room → P (Wrote (length text))) → P (putOf room text)
 put-by room text P f g = go (ltb room leastRoom) refl
   where
-    go : (b : Bool) → ltb room leastRoom ≡ b → P (cond b Full (Wrote (length text)))
+    go : (b : Bool) → ltb room leastRoom ≡ b → P (cond b noRoom (Wrote (length text)))
     go true e = f (ltb-true room leastRoom e)
     go false e = g (ltb-false room leastRoom e)
 
@@ -90,8 +91,16 @@ wrote-length : (m n : ℕ) → Wrote m ≡ Wrote n → n ≡ m
 wrote-length m n e = cc
 
 -- full: there was too little room
-pub put-full : (room : ℕ) (text : List ℕ) → putOf room text ≡ Full → room < leastRoom
-put-full room text = put-by room text (λ r. r ≡ Full → room < leastRoom) (λ h e. h) (λ h e. let z : _≡_ {A = ℕ} 0 1 = cc in absurd (omega arith))
+pub put-refused : (room : ℕ) (text : List ℕ) (r : Refusal) → putOf room text ≡ Refused r → room < leastRoom
+put-refused room text r = put-by room text (λ p. p ≡ Refused r → room < leastRoom) (λ h e. h) (λ h e. let z : _≡_ {A = ℕ} 0 1 = cc in absurd (omega arith))
+
+-- the code is 13 exactly where less than 80 bytes are left, and else 0
+pub put-code : (room : ℕ) (text : List ℕ) → putCode (putOf room text) ≡ cond (ltb room leastRoom) 13 0
+put-code room text = go (ltb room leastRoom)
+  where
+    go : (b : Bool) → putCode (cond b noRoom (Wrote (length text))) ≡ cond b 13 0
+    go true = refl
+    go false = refl
 
 -- written: there was room, and n is the length of the text
 pub put-wrote : (room n : ℕ) (text : List ℕ) → putOf room text ≡ Wrote n → (leastRoom ≤ room) × (n ≡ length text)

@@ -6,9 +6,11 @@ use lib.Dec.{leb, ltb}
 use lib.ListN.{length}
 use lib.Seq.{sets}
 use lib.IntN.{ℤ, natAbs}
+use Rattle.answers.specs.Codes.{codeOf}
+use Rattle.answers.specs.declared.Refusal.the-variants as R
 use Rattle.numbers.specs.Numbers.{mostDigits}
 use Rattle.print.specs.declared.Put.{Put}
-use Rattle.print.specs.declared.Put.the-variants.{Wrote, Full}
+use Rattle.print.specs.declared.Put.the-variants.{Wrote, Refused}
 use Rattle.print.specs.declared.Says.{Says}
 use Rattle.print.specs.declared.Says.the-variants as S
 
@@ -20,9 +22,18 @@ leastRoom = 80
 abbrev pub hasRoom : ℕ → ℕ → Bool
 hasRoom n used = leb (used + leastRoom) n
 
+-- less than 80 bytes are left: code 13
+abbrev pub noRoom : Put
+noRoom = Refused R.Room
+
 -- the answer, where so many bytes are left: how many were written
 abbrev pub putOf : ℕ → List ℕ → Put
-putOf room text = cond (ltb room leastRoom) Full (Wrote (length text))
+putOf room text = cond (ltb room leastRoom) noRoom (Wrote (length text))
+
+-- the paper's number of an answer
+abbrev pub putCode : Put → ℕ
+putCode (Wrote n) = 0
+putCode (Refused r) = codeOf r
 
 -- the output after it, where the text goes to place at
 abbrev pub afterPut : ℕ → List ℕ → ℕ → List ℕ → List ℕ

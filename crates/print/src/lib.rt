@@ -1,4 +1,5 @@
 // Lines of the sheet, written into the unused rest of the lent output.
+use answers::Refusal;
 ghost use mathlib.Core.Path.{_≡_};
 ghost use mathlib.Core.Bool.{true, false, cond};
 ghost use mathlib.Core.List.{[]};
@@ -47,10 +48,10 @@ pub enum Says {
     Money(i64),
 }
 
-// How many bytes were written, or that fewer than 80 were left.
+// The answer of writing a line: how many bytes were written.
 pub enum Put {
     Wrote(usize),
-    Full,
+    Refused(Refusal),
 }
 
 // A line of the sheet in parts: its number, if it has one; the letters of its word; the numbers behind it.
@@ -87,7 +88,7 @@ fn put_line(out: &mut [u8], s: Says) -> Put
     ensures { λ r. ⌜ now (out .exit) ≡ afterPut (length (now (out .entry))) (now (out .entry)) 0 (textOf s) ⌝ }
 {
     if out.len() < LEAST_ROOM {
-        return Put::Full;
+        return Put::Refused(Refusal::Room);
     }
     let r = row_of(s);
     let n = r.letters;

@@ -36,6 +36,10 @@ module _ {D : Type 0} {turn : D → D} {goes : D → Bool} where
       same : {m n : ℕ} → (m < n → ⊥) → (n < m → ⊥) → m ≡ n
       same p q = omega arith
 
+  -- and where it does not go on, there is no turn
+  pub stops-here : {d e : D} → goes d ≡ false → Stops turn goes d e → e ≡ d
+  stops-here {d} h s = stops-one s (record { run = runs-none d; halts = h })
+
   turned-same : {A : Type 0} (φ : D → A) → ((d : D) → goes d ≡ true → φ (turn d) ≡ φ d) → (d : D) (n : ℕ) → ((k : ℕ) → k < n → goes (turned turn k d) ≡ true) → φ (turned turn n d) ≡ φ d
   unfolding turned
   turned-same φ same d zero on = refl

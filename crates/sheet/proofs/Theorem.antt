@@ -23,7 +23,7 @@ use Rattle.sheet.specs.Stops.{Stops}
 use Rattle.sheet.specs.Turns.{Desk, endTurn, turnOf, lastTurn, closeTurn, isOn, goesOn, closesOn, fedOf, comesTo, closesTo}
 use Rattle.sheet.specs.Feeding.{deskOf, dawn}
 use Rattle.sheet.specs.Session.{firstDesk, cleared, Session, begun, hands, feeds, writes, closes}
-use Rattle.sheet.proofs.Stopping.{stops-same}
+use Rattle.sheet.proofs.Stopping.{stops-here, stops-same}
 use Rattle.sheet.proofs.Futures.{quiet-same, turn-comes, close-closes}
 use Rattle.sheet.proofs.Over.{over-quiet, over-closed}
 use Rattle.sheet.proofs.Behind.{behind, feed-behind, close-behind}
@@ -67,6 +67,10 @@ module _ (n : ℕ) {d e : Desk} where
       let o = off-by (e .night .stage) (ltb 0 (length (e .rest))) h in
       (o .0, none-left (e .rest) (o .1))
 
+  -- with less than 80 bytes left at first nothing changes
+  pub feed-full : hasRoom n (length (d .night .sheet)) ≡ false → Stops turnOf (goesOn n) d e → e ≡ d
+  feed-full r s = stops-here (rw r) s
+
   -- at the end of the input, the sheet to come is what was to come,
   pub close-comes : Stops closeTurn (closesOn n) d e → closesTo e ≡ closesTo d
   close-comes s = stops-same closesTo (λ x g. close-closes x (not-true (isOver (x .night .stage)) (and-both (hasRoom n (length (x .night .sheet))) (not (isOver (x .night .stage))) g .1))) s
@@ -74,6 +78,10 @@ module _ (n : ℕ) {d e : Desk} where
   -- and the night is over
   pub close-over : Stops closeTurn (closesOn n) d e → length (e .night .sheet) + leastRoom ≤ n → isOver (e .night .stage) ≡ true
   close-over s l = not-false (isOver (e .night .stage)) (rw (le-leb (length (e .night .sheet) + leastRoom) n l) at (s .halts))
+
+  -- or, with less than 80 bytes left at first, nothing changes
+  pub close-full : hasRoom n (length (d .night .sheet)) ≡ false → Stops closeTurn (closesOn n) d e → e ≡ d
+  close-full r s = stops-here (rw r) s
 
 -- ---- the night of a host
 

@@ -7,12 +7,13 @@ use Prim.Native.Nat.{ℕ, _+_, _-_, _≤_}
 use native.Mathlib.Omega.{arith}
 use lib.ListN.{length, take, drop, length-append}
 use lib.Seq.{sets, sets-eq, take-at, drop-at, drop-drop, length-take-le}
+use Rattle.answers.specs.declared.Refusal.{Refusal}
 use Rattle.print.specs.declared.Put.{Put}
-use Rattle.print.specs.declared.Put.the-variants.{Wrote, Full}
+use Rattle.print.specs.declared.Put.the-variants.{Wrote, Refused}
 use Rattle.print.specs.declared.Says.{Says}
 use Rattle.print.specs.Lines.{textOf}
 use Rattle.print.specs.Room.{leastRoom, putOf, afterPut, Ranges}
-use Rattle.print.proofs.Room.{put-full, put-wrote, wrote-within, wrote-after, wrote-used}
+use Rattle.print.proofs.Room.{put-refused, put-wrote, wrote-within, wrote-after, wrote-used}
 use Rattle.dayfile.specs.Entries.{countsOf, smallEntry}
 use Rattle.dayfile.specs.declared.Entry.{Entry}
 use Rattle.dayfile.proofs.Entries.{entry-small, counts-small}
@@ -30,8 +31,8 @@ sets-behind out at v l =
 
 module _ (s : Says) (out : List ℕ) (used : ℕ) (room : used + leastRoom ≤ length out) (p : Put) (e : p ≡ putOf (length out - used) (textOf s)) where
   -- there is room,
-  pub never-full : p ≡ Full → ⊥
-  never-full f = let l = put-full (length out - used) (textOf s) (sym e ∙ f) in omega arith
+  pub never-full : (r : Refusal) → p ≡ Refused r → ⊥
+  never-full r f = let l = put-refused (length out - used) (textOf s) r (sym e ∙ f) in omega arith
 
   -- and the line stands behind what was used
   pub put-behind : (m : ℕ) (out₁ : List ℕ) → Ranges s → p ≡ Wrote m → out₁ ≡ afterPut (length out - used) out used (textOf s)

@@ -21,7 +21,7 @@ returns : tie.Need-returns
 returns c =
     let s = c .before .before .before .before .before .before .before in
     let w = c .before .before .before .before .write-line in
-    absurd (never-full (s .args .s) (s .args .out .now) (s .args .used) (s .pre .0) (w .result) (w .ensures .0) (c .enum-told .given .1))
+    absurd (never-full (s .args .s) (s .args .out .now) (s .args .used) (s .pre .0) (w .result) (w .ensures .0) (c .enum-told .given .0 .0) (c .enum-told .given .1))
 
 add-result : tie.Need-add-result
 add-result c =
