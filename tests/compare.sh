@@ -3,7 +3,7 @@
 # to the byte. Usage: compare.sh [NIGHTS [SEED]]: NIGHTS of each kind, from SEED on. Ends in 'N passed, M failed'.
 set -u
 cd "$(dirname "$0")/.." || exit 2
-nights=${1:-250} seed=${2:-1}
+nights=${1:-500} seed=${2:-1}
 sheet=$PWD/target/bin/nightsheet
 [ -x "$sheet" ] || rt check nightsheet >/dev/null || exit 2
 CARGO_TARGET_DIR=$PWD/target/second cargo build --release --offline --quiet --manifest-path tests/second/Cargo.toml || exit 2

@@ -1,6 +1,7 @@
 // The answers of the calls and their codes, and the conditions that several calls judge.
 ghost use mathlib.Core.Path.{_≡_};
 ghost use Rattle.answers.specs.Codes.{codeOf};
+ghost use Rattle.answers.specs.Verdicts.{numberOf};
 
 pub mod judge;
 
@@ -114,5 +115,17 @@ pub fn code(r: Refusal) -> u32
         Refusal::Opening => 11,
         Refusal::Line => 12,
         Refusal::Room => 13,
+    }
+}
+
+// The paper's number of a verdict.
+pub fn number(v: Verdict) -> u64
+    ensures { λ n. ⌜ n ≡ numberOf v ⌝ }
+{
+    match v {
+        Verdict::Empty => 0,
+        Verdict::Full => 1,
+        Verdict::Partial => 2,
+        Verdict::Deadlocked => 3,
     }
 }

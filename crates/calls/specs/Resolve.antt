@@ -8,7 +8,7 @@ use lib.IntN.{ℤ}
 use Rattle.words.specs.Row.{putRow, plain}
 use Rattle.sets.specs.Sets.{lowestIn}
 use Rattle.house.specs.Promises.{ResolvePromise}
-use Rattle.resolving.specs.Resolve.{numberOf}
+use Rattle.answers.specs.Verdicts.{numberOf}
 use Rattle.answers.specs.declared.Refusal.the-variants.{State}
 use Rattle.answers.specs.declared.Resolution.{Resolution}
 use Rattle.answers.specs.declared.Resolved.{Resolved}

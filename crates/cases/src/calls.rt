@@ -9,7 +9,6 @@ use answers::Released;
 use answers::Resolution;
 use answers::Resolved;
 use answers::Submitted;
-use answers::Verdict;
 
 // A number as one that is not below zero: 0 for any that is.
 fn natural(x: i64) -> u64 {
@@ -215,20 +214,11 @@ fn resolved(r: Resolved) {
 fn resolution(x: Resolution) {
     let v = x.verdict;
     code(0);
-    field(verdict(v));
+    field(answers::number(v));
     field(x.payments);
     field(x.sum);
     field(sets::size(x.waiting) as u64);
     field(sets::lowest(x.waiting) as u64);
-}
-
-fn verdict(v: Verdict) -> u64 {
-    match v {
-        Verdict::Empty => 0,
-        Verdict::Full => 1,
-        Verdict::Partial => 2,
-        Verdict::Deadlocked => 3,
-    }
 }
 
 // The counts of a resolution.

@@ -23,7 +23,8 @@ use Rattle.entry.specs.Deposit.{heldDeposit, isDeposited, accountsDeposited}
 use Rattle.entry.specs.Submit.{heldSubmit, isSubmitted, countersSubmitted, paysSubmitted}
 use Rattle.settling.specs.Release.{heldRelease, isReleased, onlyHead}
 use Rattle.settling.specs.Group.{heldGroup, isGrouped}
-use Rattle.resolving.specs.Resolve.{numberOf, stillWaits}
+use Rattle.answers.specs.Verdicts.{numberOf}
+use Rattle.resolving.specs.Resolve.{stillWaits}
 use Rattle.answers.specs.declared.Resolution.{Resolution}
 use Rattle.answers.specs.declared.Released.{Released}
 use Rattle.answers.specs.declared.Released.the-variants as releasing

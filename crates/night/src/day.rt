@@ -11,7 +11,6 @@ use answers::Released;
 use answers::Resolution;
 use answers::Resolved;
 use answers::Submitted;
-use answers::Verdict;
 use dayfile::Entry;
 use print::Says;
 use tables::steps::wide;
@@ -25,7 +24,6 @@ ghost use Rattle.entry.specs.Deposit.{heldDeposit, isDeposited, accountsDeposit
 ghost use Rattle.entry.specs.Submit.{heldSubmit, isSubmitted, countersSubmitted, paysSubmitted};
 ghost use Rattle.settling.specs.Release.{heldRelease, isReleased, onlyHead};
 ghost use Rattle.settling.specs.Group.{heldGroup, isGrouped};
-ghost use Rattle.resolving.specs.Resolve.{numberOf};
 ghost use Rattle.answers.specs.declared.Refusal.the-variants.{Line};
 ghost use Rattle.night.specs.declared.Stage.the-variants.{Day};
 ghost use Rattle.night.specs.declared.Said.the-variants.{One};
@@ -183,22 +181,10 @@ fn told(n: u64, x: Resolution) -> Says
     let w = x.waiting;
     Says::Resolve(
         n,
-        number(v),
+        answers::number(v),
         x.payments,
         x.sum,
         sets::size(w) as u64,
         sets::lowest(w) as u64,
     )
-}
-
-// The paper's number of a verdict.
-fn number(v: Verdict) -> u64
-    ensures { λ r. ⌜ r ≡ numberOf v ⌝ }
-{
-    match v {
-        Verdict::Empty => 0,
-        Verdict::Full => 1,
-        Verdict::Partial => 2,
-        Verdict::Deadlocked => 3,
-    }
 }

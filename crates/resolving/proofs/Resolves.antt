@@ -31,7 +31,8 @@ use Rattle.answers.specs.declared.Refusal.{Refusal}
 use Rattle.answers.specs.declared.Resolution.{Resolution}
 use Rattle.answers.specs.declared.Resolved.{Resolved}
 use Rattle.answers.specs.declared.Resolved.the-variants.{Done, Refused}
-use Rattle.resolving.specs.Resolve.{numberOf, stillWaits, Told, Settled, Resolves}
+use Rattle.answers.specs.Verdicts.{numberOf}
+use Rattle.resolving.specs.Resolve.{stillWaits, Told, Settled, Resolves}
 
 -- ---- the tables after it
 

@@ -30,7 +30,8 @@ use Rattle.booking.proofs.Entering.{can-enter}
 use Rattle.booking.proofs.Kept.{counts-sum, booked-count, booked-last}
 use Rattle.booking.proofs.Reading.{settled-booked}
 use Rattle.answers.specs.declared.Resolution.{Resolution}
-use Rattle.resolving.specs.Resolve.{numberOf, stillWaits, Told, LargestIs, Settled}
+use Rattle.answers.specs.Verdicts.{numberOf}
+use Rattle.resolving.specs.Resolve.{stillWaits, Told, LargestIs, Settled}
 
 -- ---- the largest set
 

@@ -8,27 +8,19 @@ use lib.IntN.{ℤ}
 use lib.ListN.{length}
 use Rattle.rule.specs.Kernel.{Counts, sum}
 use Rattle.rule.specs.House.{House, waits, sent, LargestSet}
-use Rattle.rule.specs.Verdict.{empty, full, partial, deadlocked, verdict}
+use Rattle.rule.specs.Verdict.{verdict}
 use Rattle.sets.specs.Sets.{setOf}
 use Rattle.tables.specs.Layout.{countOf, houseOf}
 use Rattle.tables.specs.State.{isState}
 use Rattle.booking.specs.Booking.{listed, accountsBooked, countersBooked, paysBooked}
 use Rattle.answers.specs.Codes.{test, first}
+use Rattle.answers.specs.Verdicts.{numberOf}
 use Rattle.answers.specs.declared.Refusal.the-variants.{State, Counts as BadCounts}
 use Rattle.answers.specs.declared.Judged.{Judged}
 use Rattle.answers.specs.declared.Judged.the-variants.{Fine, Bad}
-use Rattle.answers.specs.declared.Verdict.{Verdict}
-use Rattle.answers.specs.declared.Verdict.the-variants.{Empty, Full, Partial, Deadlocked}
 use Rattle.answers.specs.declared.Resolution.{Resolution}
 use Rattle.answers.specs.declared.Resolved.{Resolved}
 use Rattle.answers.specs.declared.Resolved.the-variants.{Done, Refused}
-
--- the paper's number of each verdict
-abbrev pub numberOf : Verdict → ℕ
-numberOf Empty = empty
-numberOf Full = full
-numberOf Partial = partial
-numberOf Deadlocked = deadlocked
 
 -- on a state, k being the lent list: it is as long as the member count
 abbrev pub judgeHeld : List ℕ → List ℕ → Judged

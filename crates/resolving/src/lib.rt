@@ -12,7 +12,8 @@ ghost use Rattle.rule.specs.Verdict.{verdictOf};
 ghost use Rattle.sets.specs.Sets.{setOf};
 ghost use Rattle.tables.specs.Layout.{countOf, lastOf, settledOf};
 ghost use Rattle.tables.specs.Holds.{Holds};
-ghost use Rattle.resolving.specs.Resolve.{numberOf, judgeHeld, Resolves, LargestIs};
+ghost use Rattle.answers.specs.Verdicts.{numberOf};
+ghost use Rattle.resolving.specs.Resolve.{judgeHeld, Resolves, LargestIs};
 
 // Settles the largest allowed set, and writes its counts into the lent list.
 pub fn resolve(

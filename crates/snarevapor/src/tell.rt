@@ -4,10 +4,8 @@ ghost use mathlib.Core.List.{[], _∷_};
 ghost use Prim.Native.Nat.{_≤_};
 ghost use lib.ListN.{length};
 ghost use Rattle.words.specs.Row.{putRow, plain};
-ghost use Rattle.resolving.specs.Resolve.{numberOf};
 ghost use Rattle.calls.specs.Resolve.{partsOf};
 use answers::Resolution;
-use answers::Verdict;
 
 // Writes two parts into the answer.
 pub fn pair(answer: &mut [u8], x: u64, y: u64)
@@ -26,7 +24,7 @@ pub fn resolution(answer: &mut [u8], x: Resolution)
     let v = x.verdict;
     let waiting = x.waiting;
     let parts = [
-        number_of(v),
+        answers::number(v),
         x.payments,
         x.sum,
         waiting,
@@ -34,18 +32,6 @@ pub fn resolution(answer: &mut [u8], x: Resolution)
         wide(sets::lowest(waiting)),
     ];
     words::rows::encode_u64(&parts, answer, 0);
-}
-
-// The paper's number of a verdict.
-fn number_of(v: Verdict) -> u64
-    ensures { λ n. ⌜ n ≡ numberOf v ⌝ }
-{
-    match v {
-        Verdict::Empty => 0,
-        Verdict::Full => 1,
-        Verdict::Partial => 2,
-        Verdict::Deadlocked => 3,
-    }
 }
 
 // A number as one of 64 bits.

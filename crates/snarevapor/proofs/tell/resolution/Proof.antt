@@ -3,8 +3,8 @@ use borrow.Author.Needs.{needs}
 use Rattle.snarevapor.proofs.tell.resolution.Statement.{statement}
 use Rattle.snarevapor.proofs.tell.resolution.Tie as tie
 
-number-of-requires : tie.Need-number-of-requires
-number-of-requires c κs = search needs
+number-requires : tie.Need-number-requires
+number-requires c κs = search needs
 
 size-requires : tie.Need-size-requires
 size-requires c κs = search needs
@@ -28,13 +28,13 @@ same-length : tie.Need-same-length
 same-length c = search needs
 
 returns : tie.Need-returns
-returns c = rw (c .before .before .before .before .before .before .before .before .before .number-of .ensures, c .before .before .before .before .before .before .before .wide .ensures, c .before .before .before .before .before .before .before .before .size .ensures, c .before .before .before .before .before .wide2 .ensures, c .before .before .before .before .before .before .lowest .ensures) at (c .before .before .encode-u64 .ensures)
+returns c = rw (c .before .before .before .before .before .before .before .before .before .number .ensures, c .before .before .before .before .before .before .before .wide .ensures, c .before .before .before .before .before .before .before .before .size .ensures, c .before .before .before .before .before .wide2 .ensures, c .before .before .before .before .before .before .lowest .ensures) at (c .before .before .encode-u64 .ensures)
 
 pub resolution-spec : {M : Type 1} → statement M
 resolution-spec =
     tie.close
     (tie.spec
-    number-of-requires
+    number-requires
     size-requires
     wide-requires
     lowest-requires

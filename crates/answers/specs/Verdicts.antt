@@ -1,0 +1,11 @@
+-- The paper's number of each verdict (document 01, "Verdict").
+use Prim.Native.Nat.{ℕ}
+use Rattle.rule.specs.Verdict.{empty, full, partial, deadlocked}
+use Rattle.answers.specs.declared.Verdict.{Verdict}
+use Rattle.answers.specs.declared.Verdict.the-variants.{Empty, Full, Partial, Deadlocked}
+
+abbrev pub numberOf : Verdict → ℕ
+numberOf Empty = empty
+numberOf Full = full
+numberOf Partial = partial
+numberOf Deadlocked = deadlocked
