@@ -8,7 +8,7 @@ use lib.IntN.{ℤ, pos, _+ℤ_, _-ℤ_}
 use lib.Signed.{leZ, ltZ}
 use Rattle.rule.specs.House.{position}
 use Rattle.rule.proofs.Ints.{plus, minus, ltZ-true, ltZ-false, true-leZ, false-leZ}
-use Rattle.tables.specs.Layout.{countOf, lineOf, houseOf}
+use Rattle.tables.specs.Layout.{Tables, membersIn, houseIn, lineOf}
 use Rattle.tables.specs.State.{every}
 use Rattle.tables.specs.Holds.{Holds}
 use Rattle.tables.proofs.Houses.{line-is}
@@ -28,10 +28,10 @@ every-same f g zero e = refl
 every-same f g (suc n) e = rw (every-same f g n (λ i h. e i (omega arith)), e n (omega arith))
 
 -- the test of the positions is the rule's, of each member
-pub covered-is : {a : List ℤ} {c p counts : List ℕ} {positions : List ℤ} → Holds a c p → Weighed a c p counts positions
-    → coveredAll (countOf c) positions a ≡ every (λ i. leZ (pos 0) (position (countOf c) (houseOf a c p) (listed counts) i +ℤ pos (houseOf a c p .line i))) (countOf c)
-covered-is {a} {c} {p} {counts} {positions} h w = every-same (coveredAt positions a) (λ i. leZ (pos 0) (position (countOf c) (houseOf a c p) (listed counts) i +ℤ pos (houseOf a c p .line i))) (countOf c)
+pub covered-is : {T : Tables} {counts : List ℕ} {positions : List ℤ} → Holds T → Weighed T counts positions
+    → coveredAll (membersIn T) positions (T .accounts) ≡ every (λ i. leZ (pos 0) (position (membersIn T) (houseIn T) (listed counts) i +ℤ pos (houseIn T .line i))) (membersIn T)
+covered-is {T} {counts} {positions} h w = every-same (coveredAt positions (T .accounts)) (λ i. leZ (pos 0) (position (membersIn T) (houseIn T) (listed counts) i +ℤ pos (houseIn T .line i))) (membersIn T)
     (λ i l.
-    let q : i < 64 = omega (arith, h .few) in
-    ap (λ x. leZ (pos 0) (x +ℤ lineOf a i)) (w .weighs i q)
-    ∙ ap (λ x. leZ (pos 0) (position (countOf c) (houseOf a c p) (listed counts) i +ℤ x)) (line-is h i q))
+    let q : i < 64 = omega (arith, h .counters .few) in
+    ap (λ x. leZ (pos 0) (x +ℤ lineOf (T .accounts) i)) (w .weighs i q)
+    ∙ ap (λ x. leZ (pos 0) (position (membersIn T) (houseIn T) (listed counts) i +ℤ x)) (line-is h i q))

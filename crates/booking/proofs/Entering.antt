@@ -14,9 +14,9 @@ use Rattle.rule.specs.Queue.{total}
 use Rattle.rule.specs.Table.{queueOf, leaving}
 use Rattle.rule.proofs.Ints.{plus, minus, eq-of}
 use Rattle.rule.proofs.Table.{sent-leaving, received-leaving}
-use Rattle.tables.specs.Layout.{countOf, waitingOf, balanceOf, wordsOf, houseOf}
+use Rattle.tables.specs.Layout.{Tables, membersIn, waitingIn, wordsIn, houseIn, balanceOf}
 use Rattle.tables.specs.Needs.{Near}
-use Rattle.tables.proofs.Balances.{holds-near}
+use Rattle.tables.proofs.Balances.{accounts-near}
 use Rattle.tables.proofs.Houses.{holds-payers}
 use Rattle.finder.specs.Limits.{far, mostAmount, farBalance}
 use Rattle.finder.specs.Positions.{moved, Steady, Entering}
@@ -72,17 +72,17 @@ pub entered-length : (xs : List ℤ) (ws : List ℕ) → length (entered xs ws) 
 entered-length xs [] = refl
 entered-length xs (w ∷ ws) = entered-length (moved xs (payerOf w) (payeeOf w) (amountOf w)) ws ∙ simp length-set
 
-module _ {a : List ℤ} {c p counts : List ℕ} (g : Counted a c p counts) (bs : List ℤ) (members : length bs ≡ 64)
-    (same : (i : ℕ) → i < 64 → getD bs i (pos 0) ≡ balanceOf a i) where
+module _ {T : Tables} {counts : List ℕ} (g : Counted T counts) (bs : List ℤ) (members : length bs ≡ 64)
+    (same : (i : ℕ) → i < 64 → getD bs i (pos 0) ≡ balanceOf (T .accounts) i) where
   -- the counted payments, entered into the balances, lead to the positions of the rule
-  pub weighed : Weighed a c p counts (entered bs (leaving (listed counts) (wordsOf c p)))
+  pub weighed : Weighed T counts (entered bs (leaving (listed counts) (wordsIn T)))
   weighed = record {
-    members = entered-length bs (leaving (listed counts) (wordsOf c p)) ∙ members;
-    weighs = λ i h. entered-at bs (leaving (listed counts) (wordsOf c p)) i members
+    members = entered-length bs (leaving (listed counts) (wordsIn T)) ∙ members;
+    weighs = λ i h. entered-at bs (leaving (listed counts) (wordsIn T)) i members
         ∙ rw (
           same i h,
-          sent-leaving (houseOf a c p) (wordsOf c p) (listed counts) i refl,
-          received-leaving (countOf c) (houseOf a c p) (wordsOf c p) (listed counts) i (λ j k. refl) (holds-payers (g .holds)),
+          sent-leaving (houseIn T) (wordsIn T) (listed counts) i refl,
+          received-leaving (membersIn T) (houseIn T) (wordsIn T) (listed counts) i (λ j k. refl) (holds-payers (g .holds)),
         );
   }
 
@@ -91,13 +91,13 @@ module _ {a : List ℤ} {c p counts : List ℕ} (g : Counted a c p counts) (bs :
   near-far (negsuc n) h = omega arith
 
   -- and can be entered into them
-  pub can-enter : Entering (waitingOf c) p bs
+  pub can-enter : Entering (waitingIn T) (T .pays) bs
   can-enter = let h = g .holds in record {
     places = omega arith;
-    few = h .room;
+    few = h .counters .room;
     each = members;
-    small = λ k l. omega (arith, h .words k l .small);
-    near = λ i l. rw (same i l) (near-far (balanceOf a i) (holds-near h i l));
+    small = λ k l. omega (arith, h .places .words k l .small);
+    near = λ i l. rw (same i l) (near-far (balanceOf (T .accounts) i) (accounts-near (h .accounts) i l));
   }
 
 -- ---- the pass

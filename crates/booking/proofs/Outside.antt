@@ -14,7 +14,7 @@ use Rattle.rule.proofs.Ints.{plus-zero}
 use Rattle.rule.proofs.Sums.{sum-cong, sum-zero, eqb-other}
 use Rattle.rule.proofs.Queues.{outgoing-drop}
 use Rattle.rule.proofs.Money.{money-booked}
-use Rattle.tables.specs.Layout.{countOf, balanceOf, moneyOf, houseOf}
+use Rattle.tables.specs.Layout.{Tables, membersIn, houseIn, balanceOf, moneyOf}
 use Rattle.tables.specs.Holds.{Holds}
 use Rattle.tables.proofs.Houses.{holds-proper, no-queue}
 
@@ -39,25 +39,25 @@ money-rest (suc m) n b h f = elim (ℕ-discrete n (suc m)) [
   | no e ↦ ap (λ x. money m b +ℤ x) (f m (omega arith) (omega arith)) ∙ plus-zero (money m b) ∙ money-rest m n b (omega arith) (λ i k l. f i k (omega arith))
 ]
 
-module _ {a : List ℤ} {c p : List ℕ} (h : Holds a c p) (z : Counts) where
-  sends-none : (i : ℕ) → countOf c ≤ i → sent (houseOf a c p) z i ≡ 0
+module _ {T : Tables} (h : Holds T) (z : Counts) where
+  sends-none : (i : ℕ) → membersIn T ≤ i → sent (houseIn T) z i ≡ 0
   unfolding sent
   sends-none i l = rw (no-queue h i l) (none-from (z i))
 
-  receives-none : (i : ℕ) → countOf c ≤ i → received (countOf c) (houseOf a c p) z i ≡ 0
+  receives-none : (i : ℕ) → membersIn T ≤ i → received (membersIn T) (houseIn T) z i ≡ 0
   unfolding received
   receives-none i l =
-      sum-cong (countOf c) (λ j. worth (amountTo i) (houseOf a c p .queue j) (z j)) (λ j. 0)
-      (λ j k. none-to (countOf c) i j (houseOf a c p .queue j) (z j) l (holds-proper h .outgoing j k))
-      ∙ sum-zero (countOf c)
+      sum-cong (membersIn T) (λ j. worth (amountTo i) (houseIn T .queue j) (z j)) (λ j. 0)
+      (λ j k. none-to (membersIn T) i j (houseIn T .queue j) (z j) l (holds-proper h .outgoing j k))
+      ∙ sum-zero (membersIn T)
 
   -- whatever is booked, who is no member stands at 0,
-  pub no-position : (i : ℕ) → countOf c ≤ i → i < 64 → position (countOf c) (houseOf a c p) z i ≡ pos 0
-  no-position i l q = rw (h .no-balance i l q, sends-none i l, receives-none i l)
+  pub no-position : (i : ℕ) → membersIn T ≤ i → i < 64 → position (membersIn T) (houseIn T) z i ≡ pos 0
+  no-position i l q = rw (h .accounts .no-balance i l q, sends-none i l, receives-none i l)
 
   -- and the sum of all balances is as it was
-  pub money-position : money 64 (position (countOf c) (houseOf a c p) z) ≡ moneyOf a
+  pub money-position : money 64 (position (membersIn T) (houseIn T) z) ≡ moneyOf (T .accounts)
   money-position =
-      money-rest 64 (countOf c) (position (countOf c) (houseOf a c p) z) (h .few) no-position
-      ∙ money-booked (countOf c) (houseOf a c p) z (holds-proper h)
-      ∙ sym (money-rest 64 (countOf c) (balanceOf a) (h .few) (h .no-balance))
+      money-rest 64 (membersIn T) (position (membersIn T) (houseIn T) z) (h .counters .few) no-position
+      ∙ money-booked (membersIn T) (houseIn T) z (holds-proper h)
+      ∙ sym (money-rest 64 (membersIn T) (balanceOf (T .accounts)) (h .counters .few) (h .accounts .no-balance))

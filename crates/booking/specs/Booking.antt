@@ -10,7 +10,7 @@ use Rattle.rule.specs.Lists.{fill, fillAt}
 use Rattle.rule.specs.Kernel.{Counts, sum, Under}
 use Rattle.rule.specs.House.{House, waits, position}
 use Rattle.rule.specs.Table.{staying}
-use Rattle.tables.specs.Layout.{countOf, waitingOf, settledOf, wordsOf, lineOf, houseOf}
+use Rattle.tables.specs.Layout.{Tables, tables, membersIn, wordsIn, houseIn, waitingOf, settledOf, lineOf}
 use Rattle.tables.specs.State.{every}
 use Rattle.tables.specs.Holds.{Holds}
 
@@ -18,17 +18,18 @@ use Rattle.tables.specs.Holds.{Holds}
 abbrev pub listed : List ℕ → Counts
 listed k i = getD k i 0
 
--- each of the 64 balances is where z takes it; the rest of the accounts is as it was
-abbrev pub accountsBooked : List ℤ → List ℕ → List ℕ → Counts → List ℤ
-accountsBooked a c p z = fill 64 (position (countOf c) (houseOf a c p) z) a
-
 -- what left is settled, and waits no more
 abbrev pub countersBooked : List ℕ → Counts → List ℕ
 countersBooked c z = set (fillAt 128 64 (λ i. settledOf c i + z i) c) 1 (waitingOf c - sum 64 z)
 
--- the payments that stay have closed up, and every later place is 0
-abbrev pub paysBooked : List ℕ → List ℕ → Counts → List ℕ
-paysBooked c p z = fill 2048 (λ k. getD (staying z (wordsOf c p)) k 0) p
+-- the tables with z booked: each of the 64 balances is where z takes it, and the payments that stay have closed up; every later place is
+-- 0, and the rest of the accounts and counters is as it was
+unfoldable pub bookedIn : Tables → Counts → Tables
+bookedIn T z =
+    tables
+    (fill 64 (position (membersIn T) (houseIn T) z) (T .accounts))
+    (countersBooked (T .counters) z)
+    (fill 2048 (λ k. getD (staying z (wordsIn T)) k 0) (T .pays))
 
 -- whether each of the n members is covered at these positions: position + line >= 0
 abbrev pub coveredAt : List ℤ → List ℤ → ℕ → Bool
@@ -38,12 +39,12 @@ abbrev pub coveredAll : ℕ → List ℤ → List ℤ → Bool
 coveredAll n positions a = every (coveredAt positions a) n
 
 -- the counts are for 64 members and no more than waits
-pub record Counted (a : List ℤ) (c p counts : List ℕ) : Type 0 where
-  pub holds : Holds a c p
+pub record Counted (T : Tables) (counts : List ℕ) : Type 0 where
+  pub holds : Holds T
   pub members : length counts ≡ 64
-  pub within : Under 64 (listed counts) (waits (houseOf a c p))
+  pub within : Under 64 (listed counts) (waits (houseIn T))
 
 -- these are the 64 positions that the counts lead to
-pub record Weighed (a : List ℤ) (c p counts : List ℕ) (positions : List ℤ) : Type 0 where
+pub record Weighed (T : Tables) (counts : List ℕ) (positions : List ℤ) : Type 0 where
   pub members : length positions ≡ 64
-  pub weighs : (i : ℕ) → i < 64 → getD positions i (pos 0) ≡ position (countOf c) (houseOf a c p) (listed counts) i
+  pub weighs : (i : ℕ) → i < 64 → getD positions i (pos 0) ≡ position (membersIn T) (houseIn T) (listed counts) i

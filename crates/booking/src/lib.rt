@@ -13,16 +13,16 @@ ghost use Rattle.rule.specs.Payment.{amountOf};
 ghost use Rattle.rule.specs.Queue.{total};
 ghost use Rattle.rule.specs.House.{sent};
 ghost use Rattle.rule.specs.Table.{leaving, staying};
-ghost use Rattle.tables.specs.Layout.{countOf, houseOf};
-ghost use Rattle.tables.specs.Holds.{Accounts};
-ghost use Rattle.booking.specs.Booking.{listed, accountsBooked, countersBooked, paysBooked, coveredAll, Counted, Weighed};
+ghost use Rattle.tables.specs.Layout.{tables, countOf, houseIn};
+ghost use Rattle.tables.specs.Holds.{Counters, Accounts};
+ghost use Rattle.booking.specs.Booking.{listed, countersBooked, bookedIn, coveredAll, Counted, Weighed};
 ghost use Rattle.finder.specs.Positions.{Entering};
 ghost use Rattle.booking.specs.Steps.{Words, Countable, Ends, entered, closedUp};
 
 // Where the counted payments take each balance.
 pub fn weigh(accounts: &[i64], counters: &[u32], pays: &[u64], counts: &[u16]) -> [i64; 64]
-    requires { ⌜ Counted (now accounts) (now counters) (now pays) (now counts) ⌝ }
-    ensures { λ r. ⌜ Weighed (now (accounts .entry)) (now (counters .entry)) (now (pays .entry)) (now (counts .entry)) r ⌝ }
+    requires { ⌜ Counted (tables (now accounts) (now counters) (now pays)) (now counts) ⌝ }
+    ensures { λ r. ⌜ Weighed (tables (now (accounts .entry)) (now (counters .entry)) (now (pays .entry))) (now (counts .entry)) r ⌝ }
 {
     let mut positions = balances(accounts);
     let mut left = copied(counts);
@@ -32,7 +32,7 @@ pub fn weigh(accounts: &[i64], counters: &[u32], pays: &[u64], counts: &[u16]) -
 
 // Whether each member is covered at these positions: none is below minus its line.
 pub fn covered(positions: &[i64], accounts: &[i64], counters: &[u32]) -> bool
-    requires { ⌜ Accounts (now accounts) (now counters) ⌝ }
+    requires { ⌜ Counters (now counters) × Accounts (countOf (now counters)) (now accounts) ⌝ }
     requires { ⌜ length (now positions) ≡ 64 ⌝ }
     ensures { λ r. ⌜ r ≡ coveredAll (countOf (now (counters .entry))) (now (positions .entry)) (now (accounts .entry)) ⌝ }
 {
@@ -55,12 +55,10 @@ pub fn book(
     positions: &[i64],
     counts: &[u16],
 ) -> u64
-    requires { ⌜ Counted (now accounts) (now counters) (now pays) (now counts) ⌝ }
-    requires { ⌜ Weighed (now accounts) (now counters) (now pays) (now counts) (now positions) ⌝ }
-    ensures { λ r. ⌜ now (accounts .exit) ≡ accountsBooked (now (accounts .entry)) (now (counters .entry)) (now (pays .entry)) (listed (now (counts .entry))) ⌝ }
-    ensures { λ r. ⌜ now (counters .exit) ≡ countersBooked (now (counters .entry)) (listed (now (counts .entry))) ⌝ }
-    ensures { λ r. ⌜ now (pays .exit) ≡ paysBooked (now (counters .entry)) (now (pays .entry)) (listed (now (counts .entry))) ⌝ }
-    ensures { λ r. ⌜ r ≡ sum (countOf (now (counters .entry))) (sent (houseOf (now (accounts .entry)) (now (counters .entry)) (now (pays .entry))) (listed (now (counts .entry)))) ⌝ }
+    requires { ⌜ Counted (tables (now accounts) (now counters) (now pays)) (now counts) ⌝ }
+    requires { ⌜ Weighed (tables (now accounts) (now counters) (now pays)) (now counts) (now positions) ⌝ }
+    ensures { λ r. ⌜ tables (now (accounts .exit)) (now (counters .exit)) (now (pays .exit)) ≡ bookedIn (tables (now (accounts .entry)) (now (counters .entry)) (now (pays .entry))) (listed (now (counts .entry))) ⌝ }
+    ensures { λ r. ⌜ r ≡ sum (countOf (now (counters .entry))) (sent (houseIn (tables (now (accounts .entry)) (now (counters .entry)) (now (pays .entry)))) (listed (now (counts .entry)))) ⌝ }
 {
     let mut left = copied(counts);
     let sum = close_up(pays, wide(counters[1]), &mut left);

@@ -1,6 +1,6 @@
--- A chain of calls is the rule's calls that it made, one after the other: from each link, and from how two stretches join.
+-- Requests are the rule's calls that they made, one after the other: from each of them, and from how two stretches join.
 use mathlib.Core.Path.{_≡_, _∙_, subst}
-use mathlib.Core.List.{List, _++_}
+use mathlib.Core.List.{List, [], _∷_, _++_}
 use Prim.Native.Nat.{ℕ, _+_}
 use native.Mathlib.Omega.{arith}
 use lib.ListN.{length-append}
@@ -8,8 +8,9 @@ use Rattle.rule.specs.Kernel.{sum}
 use Rattle.rule.specs.Day.{Call, Lived, deposits}
 use Rattle.rule.proofs.Ints.{plus-assoc}
 use Rattle.rule.proofs.Sums.{sum-add, sum-cong}
-use Rattle.tables.specs.Layout.{moneyOf}
-use Rattle.days.specs.Days.{Tables, membersOf, houseIn, Stands, Chain, none, then, made}
+use Rattle.tables.specs.Layout.{Tables, membersIn, houseIn, moneyOf}
+use Rattle.tables.specs.Holds.{Holds}
+use Rattle.days.specs.Days.{Request, afterAll, made}
 use Rattle.days.proofs.Links.{Carried, refused-carries, link-carries}
 use Rattle.days.proofs.Joins.{deposits-join, payments-join, lived-join}
 
@@ -23,10 +24,10 @@ carried-join {T} {U} {W} {cs} {ds} k m = record {
   members = m .members ∙ k .members;
   lived = lived-join (k .lived) (subst (λ n. Lived n (houseIn U) ds (houseIn W)) (k .members) (m .lived));
   lasts = λ i q. rw (payments-join cs ds i, length-append) (omega (arith, k .lasts i q, m .lasts i (omega (arith, k .members))));
-  money = m .money ∙ rw (k .members, k .money, sum-join (membersOf T) cs ds) (plus-assoc (moneyOf (T .accounts)) (sum (membersOf T) (deposits cs)) (sum (membersOf T) (deposits ds)));
+  money = m .money ∙ rw (k .members, k .money, sum-join (membersIn T) cs ds) (plus-assoc (moneyOf (T .accounts)) (sum (membersIn T) (deposits cs)) (sum (membersIn T) (deposits ds)));
 }
 
--- a chain of calls from a state is the rule's calls that it made
-pub chain-carries : {T W : Tables} → Stands T → (ch : Chain T W) → Carried T (made ch) W
-chain-carries h none = refused-carries h
-chain-carries h (then l ls) = let k = link-carries h l in carried-join k (chain-carries (k .stands) ls)
+-- requests from a state on are the rule's calls that they made
+pub chain-carries : {T : Tables} → Holds T → (qs : List Request) → Carried T (made qs T) (afterAll qs T)
+chain-carries h [] = refused-carries h
+chain-carries h (q ∷ qs) = let k = link-carries h q in carried-join k (chain-carries (k .stands) qs)

@@ -5,4 +5,3 @@ pub mod Numbers
 pub mod Demand3
 pub mod Openings
 pub mod Sums
-pub mod Unique

@@ -1,12 +1,12 @@
--- Each promise is a list of the rule's calls, empty where it was refused: from what the laws of the calls say of tables that hold a state.
-use mathlib.Core.Path.{_≡_, refl, sym, ap, _∙_, subst}
-use mathlib.Core.Bool.{Bool, true, false, cond, false≢true}
+-- Each request is a list of the rule's calls, empty where it was refused: from what the laws of the calls say of tables that hold a state.
+use mathlib.Core.Path.{_≡_, refl, sym, ap, _∙_}
+use mathlib.Core.Bool.{Bool, true, false, cond}
 use mathlib.Core.List.{List, [], _∷_, _++_}
 use Prim.Native.Nat.{ℕ, _+_, _-_, _<_}
 use native.Mathlib.Omega.{arith}
 use lib.Dec.{eqb}
 use lib.IntN.{ℤ, pos, _+ℤ_}
-use lib.ListN.{length, List·getD-eq-default}
+use lib.ListN.{length, getD}
 use Rattle.rule.specs.Kernel.{Counts, sum}
 use Rattle.rule.specs.Payment.{word}
 use Rattle.rule.specs.Day.{Call, deposit, submit, settle, onlyFor, Lived, done, next, payments, deposits as depositsOf}
@@ -14,39 +14,34 @@ use Rattle.rule.proofs.Ints.{plus-zero}
 use Rattle.rule.proofs.Sums.{sum-zero, sum-cong, sum-only}
 use Rattle.rule.proofs.Payments.{payer-word}
 use Rattle.rule.proofs.Same.{same-refl}
-use Rattle.tables.specs.Layout.{lastOf, moneyOf}
-use Rattle.tables.proofs.States.{holds-state}
-use Rattle.booking.specs.Booking.{listed, accountsBooked, countersBooked, paysBooked}
-use Rattle.booking.proofs.Kept.{booked-count, booked-last, booked-house, booked-holds, booked-money}
-use Rattle.entry.specs.Deposit.{accountsDeposited}
-use Rattle.entry.specs.Submit.{countersSubmitted, paysSubmitted}
-use Rattle.settling.specs.Release.{isReleased, onlyHead}
-use Rattle.settling.specs.Group.{isGrouped}
-use Rattle.answers.specs.declared.Opened.the-variants as opening
-use Rattle.answers.specs.declared.Deposited.the-variants as depositing
-use Rattle.answers.specs.declared.Submitted.the-variants as submitting
-use Rattle.answers.specs.declared.Released.the-variants as releasing
-use Rattle.answers.specs.declared.Grouped.the-variants as grouping
-use Rattle.answers.specs.declared.Resolved.the-variants as resolving
-use Rattle.entry.proofs.Judging.{Deposits, Submits, deposit-done, submit-done}
-use Rattle.entry.proofs.Deposits.{deposits-hold, deposits-call, deposits-money}
-use Rattle.entry.proofs.Submits.{submits-hold, submits-count, submits-accepts, submits-call, submits-last}
-use Rattle.settling.proofs.Settles.{Books, release-books, group-books}
-use Rattle.days.specs.Days.{Tables, membersOf, houseIn, Stands, Link, opens, deposits, submits, releases, groups, resolves, did}
+use Rattle.tables.specs.Layout.{Tables, membersIn, houseIn, lastOf, moneyOf}
+use Rattle.tables.specs.Holds.{Holds}
+use Rattle.booking.specs.Booking.{listed, bookedIn}
+use Rattle.booking.proofs.Kept.{Books, booked-count, booked-last, booked-house, booked-holds, booked-money}
+use Rattle.entry.specs.Deposit.{depositedIn, depositAct}
+use Rattle.entry.specs.Submit.{submittedIn, submitAct}
+use Rattle.settling.specs.Release.{releaseAct, onlyHead}
+use Rattle.settling.specs.Group.{bookAct, groupAct}
+use Rattle.resolving.specs.Resolve.{resolveAct, largestIn}
+use Rattle.answers.specs.Codes.{first}
+use Rattle.answers.specs.Outcome.{Act, decided, judgement, called}
+use Rattle.answers.specs.declared.Judged.{Judged}
+use Rattle.answers.specs.declared.Judged.the-variants.{Fine, Bad}
+use Rattle.answers.proofs.Outcomes.{judgement-fine}
+use Rattle.entry.proofs.Judging.{Deposits, Submits, deposit-fine, submit-fine}
+use Rattle.entry.proofs.Deposits.{deposits-hold, deposits-counters, deposits-call, deposits-money}
+use Rattle.entry.proofs.Submits.{submits-hold, submits-accounts, submits-count, submits-accepts, submits-call, submits-last}
+use Rattle.settling.proofs.Settles.{release-books, group-books}
+use Rattle.resolving.proofs.Resolves.{largest-books}
+use Rattle.days.specs.Days.{Request, deposits, submits, releases, groups, resolves, after, accepted, did}
 
 -- what calls that were accepted as cs carry from T to W: a state, the count, the house, the last numbers and the sum of balances
 pub record Carried (T : Tables) (cs : List Call) (W : Tables) : Type 0 where
-  pub stands : Stands W
-  pub members : membersOf W ≡ membersOf T
-  pub lived : Lived (membersOf T) (houseIn T) cs (houseIn W)
-  pub lasts : (i : ℕ) → i < membersOf T → lastOf (W .counters) i ≡ lastOf (T .counters) i + length (payments cs i)
-  pub money : moneyOf (W .accounts) ≡ moneyOf (T .accounts) +ℤ pos (sum (membersOf T) (depositsOf cs))
-
-tables-one : {X W : Tables} → W .accounts ≡ X .accounts → W .counters ≡ X .counters → W .pays ≡ X .pays → X ≡ W
-tables-one a c p j = record { accounts = sym a j; counters = sym c j; pays = sym p j }
-
-carried-to : {T X W : Tables} {cs : List Call} → Carried T cs X → W .accounts ≡ X .accounts → W .counters ≡ X .counters → W .pays ≡ X .pays → Carried T cs W
-carried-to {T} {cs = cs} k a c p = subst (λ Y. Carried T cs Y) (tables-one a c p) k
+  pub stands : Holds W
+  pub members : membersIn W ≡ membersIn T
+  pub lived : Lived (membersIn T) (houseIn T) cs (houseIn W)
+  pub lasts : (i : ℕ) → i < membersIn T → lastOf (W .counters) i ≡ lastOf (T .counters) i + length (payments cs i)
+  pub money : moneyOf (W .accounts) ≡ moneyOf (T .accounts) +ℤ pos (sum (membersIn T) (depositsOf cs))
 
 -- ---- one call
 
@@ -57,65 +52,60 @@ one-long : (b : Bool) (w : ℕ) → cond b 1 0 ≡ length (cond b (w ∷ []) [] 
 one-long true w = refl
 one-long false w = refl
 
-module _ {T : Tables} (h : Stands T) where
+module _ {T : Tables} (h : Holds T) where
   -- a refused call carries nothing,
   pub refused-carries : Carried T [] T
-  refused-carries = record { stands = h; members = refl; lived = done same-refl; lasts = λ i q. omega arith; money = no-more (membersOf T) (moneyOf (T .accounts)) }
+  refused-carries = record { stands = h; members = refl; lived = done same-refl; lasts = λ i q. omega arith; money = no-more (membersIn T) (moneyOf (T .accounts)) }
 
   -- an accepted deposit is the rule's,
-  pub deposit-carries : {m x : ℕ} → Deposits (T .accounts) (T .counters) m x
-      → Carried T (deposit (m - 1) x ∷ []) (record { accounts = accountsDeposited (T .accounts) m x; counters = T .counters; pays = T .pays })
+  pub deposit-carries : {m x : ℕ} → Deposits T m x → Carried T (deposit (m - 1) x ∷ []) (depositedIn T m x)
   deposit-carries {m} {x} d = record {
     stands = deposits-hold h d;
-    members = refl;
+    members = ap (λ c. getD c 0 0) (deposits-counters h d);
     lived = next tt (deposits-call h d) (done same-refl);
-    lasts = λ i q. omega arith;
+    lasts = λ i q. ap (λ c. lastOf c i) (deposits-counters h d) ∙ omega arith;
     money = deposits-money h d ∙ ap (λ k. moneyOf (T .accounts) +ℤ pos k) (sym (
-        sum-cong (membersOf T) (λ i. onlyFor (m - 1) x i + 0) (onlyFor (m - 1) x) (λ i q. omega arith)
-        ∙ sum-only (membersOf T) (m - 1) x (omega (arith, d .one, d .within))
+        sum-cong (membersIn T) (λ i. onlyFor (m - 1) x i + 0) (onlyFor (m - 1) x) (λ i q. omega arith)
+        ∙ sum-only (membersIn T) (m - 1) x (omega (arith, d .one, d .within))
         ));
   }
 
   -- and so is an accepted submission
-  pub submit-carries : {m n q x : ℕ} → Submits (T .counters) m n q x
-      → Carried T (submit (word (m - 1) (q - 1) x) ∷ []) (record { accounts = T .accounts; counters = countersSubmitted (T .counters) m n; pays = paysSubmitted (T .counters) (T .pays) m q x })
+  pub submit-carries : {m n q x : ℕ} → Submits T m n q x → Carried T (submit (word (m - 1) (q - 1) x) ∷ []) (submittedIn T m n q x)
   submit-carries {m} {n} {q} {x} s = record {
     stands = submits-hold h s;
     members = submits-count h s;
     lived = next (submits-accepts h s) (submits-call h s) (done same-refl);
     lasts = λ i l. submits-last h s i ∙ ap (λ k. lastOf (T .counters) i + k)
-        (rw (payer-word (m - 1) (q - 1) x (omega (arith, s .one, s .within, h .few)) (omega (arith, s .to, s .known, h .few))) (one-long (eqb (m - 1) i) (word (m - 1) (q - 1) x)));
-    money = no-more (membersOf T) (moneyOf (T .accounts));
+        (rw (payer-word (m - 1) (q - 1) x (omega (arith, s .one, s .within, h .counters .few)) (omega (arith, s .to, s .known, h .counters .few))) (one-long (eqb (m - 1) i) (word (m - 1) (q - 1) x)));
+    money = ap moneyOf (submits-accounts h s) ∙ no-more (membersIn T) (moneyOf (T .accounts));
   }
 
   -- an accepted release, group or resolution is the booking of its set
-  pub booking-carries : (z : Counts) → Books (T .accounts) (T .counters) (T .pays) z
-      → Carried T (settle z ∷ []) (record { accounts = accountsBooked (T .accounts) (T .counters) (T .pays) z; counters = countersBooked (T .counters) z; pays = paysBooked (T .counters) (T .pays) z })
+  pub booking-carries : (z : Counts) → Books T z → Carried T (settle z ∷ []) (bookedIn T z)
   booking-carries z b = record {
-    stands = booked-holds h z (b .allowed) (b .past);
+    stands = booked-holds h z b;
     members = booked-count h z;
-    lived = next (b .allowed) (booked-house h z (b .allowed) (b .past)) (done same-refl);
-    lasts = λ i q. booked-last h z i (omega (arith, h .few)) ∙ omega arith;
-    money = booked-money h z ∙ no-more (membersOf T) (moneyOf (T .accounts));
+    lived = next (b .allowed) (booked-house h z b) (done same-refl);
+    lasts = λ i q. booked-last h z i (omega (arith, h .counters .few)) ∙ omega arith;
+    money = booked-money h z ∙ no-more (membersIn T) (moneyOf (T .accounts));
   }
 
--- a call that was made on a state is the calls of the rule that it did
-pub link-carries : {T W : Tables} → Stands T → (l : Link T W) → Carried T (did l) W
-link-carries h (opens n b l (opening.Done s) p e) = absurd (false≢true (sym e))
-link-carries h (opens n b l (opening.Refused r) p e) = carried-to (refused-carries h) (p .accounts) (p .counters) (p .pays)
-link-carries {T} h (deposits m x (depositing.Done b) p e f) =
-    carried-to (deposit-carries h (deposit-done (T .accounts) (T .counters) m x (sym (rw (holds-state h) at (p .answer))))) (p .accounts) e f
-link-carries h (deposits m x (depositing.Refused r) p e f) = carried-to (refused-carries h) (p .accounts) e f
-link-carries {T} h (submits m n q x submitting.Done p e) =
-    carried-to (submit-carries h (submit-done (T .counters) m n q x (sym (rw (holds-state h) at (p .answer))))) e (p .counters) (p .pays)
-link-carries h (submits m n q x (submitting.Refused r) p e) = carried-to (refused-carries h) e (p .counters) (p .pays)
-link-carries h (releases m (releasing.Done i n x) p) =
-    carried-to (booking-carries h (onlyHead m) (release-books h m (ap isReleased (sym (rw (holds-state h) at (p .answer)))))) (p .accounts) (p .counters) (p .pays)
-link-carries h (releases m (releasing.Refused r) p) = carried-to (refused-carries h) (p .accounts) (p .counters) (p .pays)
-link-carries h (groups k (grouping.Done n s) p) =
-    carried-to (booking-carries h (listed k) (group-books h k (ap isGrouped (sym (rw (holds-state h) at (p .answer)))))) (p .accounts) (p .counters) (p .pays)
-link-carries h (groups k (grouping.Refused r) p) = carried-to (refused-carries h) (p .accounts) (p .counters) (p .pays)
-link-carries h (resolves k k′ (resolving.Done x) p) = let s = p .1 in
-    carried-to (booking-carries h (listed k′) (record { allowed = s .largest .allowed; past = λ i l q. List·getD-eq-default k′ 0 {n = i} (omega (arith, s .members)) }))
-    (s .accounts) (s .counters) (s .pays)
-link-carries h (resolves k k′ (resolving.Refused r) p) = let s = p .1 in carried-to (refused-carries h) (s .accounts) (s .counters) (s .pays)
+-- a call carries what it does where it is fine
+act-carries : {A : Type 0} (k : Act A) {T : Tables} {cs : List Call} → Holds T → (first (k .tests T) ≡ Fine → Carried T cs (k .does T .after))
+    → Carried T (accepted (judgement k T) cs) (called k T .after)
+unfolding called
+act-carries k {T} {cs} h f = go (judgement k T) refl
+  where
+    go : (j : Judged) → judgement k T ≡ j → Carried T (accepted j cs) (decided k T j .after)
+    go Fine e = f (judgement-fine k T e .1)
+    go (Bad r) e = refused-carries h
+
+-- a request that was made on a state is the calls of the rule that it did
+pub link-carries : {T : Tables} → Holds T → (q : Request) → Carried T (did q T) (after q T)
+unfolding depositAct submitAct releaseAct groupAct bookAct resolveAct
+link-carries h (deposits m x) = act-carries (depositAct m x) h (λ e. deposit-carries h (deposit-fine e))
+link-carries h (submits m n q x) = act-carries (submitAct m n q x) h (λ e. submit-carries h (submit-fine e))
+link-carries h (releases m) = act-carries (releaseAct m) h (λ e. booking-carries h (onlyHead m) (release-books h m e))
+link-carries h (groups k) = act-carries (groupAct k) h (λ e. booking-carries h (listed k) (group-books h k e))
+link-carries {T} h (resolves k) = act-carries (resolveAct k) h (λ e. booking-carries h (listed (largestIn T)) (largest-books h))

@@ -9,29 +9,30 @@ use Rattle.rule.specs.Kernel.{sum}
 use Rattle.rule.specs.House.{money}
 use Rattle.rule.specs.Day.{deposits}
 use Rattle.rule.proofs.Day.{carried}
-use Rattle.tables.specs.Layout.{balanceOf, lineOf, moneyOf}
+use Rattle.tables.specs.Layout.{Tables, membersIn, balanceOf, lineOf, moneyOf}
+use Rattle.tables.specs.Holds.{Holds}
 use Rattle.tables.proofs.Houses.{holds-sound, line-is}
 use Rattle.opening.specs.Open.{entry}
-use Rattle.days.specs.Days.{Tables, membersOf, Stands, Chain, made, Begun}
+use Rattle.days.specs.Days.{Request, afterAll, made, Begun}
 use Rattle.days.proofs.Chains.{chain-carries}
 use Rattle.days.proofs.Openings.{begun-stands, begun-members, begun-money}
 
-module _ {T W : Tables} (h : Stands T) (ch : Chain T W) where
+module _ {T : Tables} (h : Holds T) (qs : List Request) where
   -- the sum of balances is the first sum plus accepted deposits,
-  pub chain-money : moneyOf (W .accounts) ≡ moneyOf (T .accounts) +ℤ pos (sum (membersOf T) (deposits (made ch)))
-  chain-money = chain-carries h ch .money
+  pub chain-money : moneyOf (afterAll qs T .accounts) ≡ moneyOf (T .accounts) +ℤ pos (sum (membersIn T) (deposits (made qs T)))
+  chain-money = chain-carries h qs .money
 
   -- each member is at or above minus its line,
-  pub chain-covered : (i : ℕ) → i < membersOf T → pos 0 ≤ℤ (balanceOf (W .accounts) i +ℤ lineOf (W .accounts) i)
-  chain-covered i q = let k = chain-carries h ch in k .stands .holders i (omega (arith, k .members)) .cover
+  pub chain-covered : (i : ℕ) → i < membersIn T → pos 0 ≤ℤ (balanceOf (afterAll qs T .accounts) i +ℤ lineOf (afterAll qs T .accounts) i)
+  chain-covered i q = let k = chain-carries h qs in k .stands .accounts .holders i (omega (arith, k .members)) .cover
 
   -- and the lines stay
-  pub chain-lines : (i : ℕ) → i < membersOf T → lineOf (W .accounts) i ≡ lineOf (T .accounts) i
+  pub chain-lines : (i : ℕ) → i < membersIn T → lineOf (afterAll qs T .accounts) i ≡ lineOf (T .accounts) i
   chain-lines i q =
-      let k = chain-carries h ch in
-      let s : i < 64 = omega (arith, h .few) in
+      let k = chain-carries h qs in
+      let s : i < 64 = omega (arith, h .counters .few) in
       line-is (k .stands) i s ∙ ap pos (carried (holds-sound h) (k .lived) .lines i q) ∙ sym (line-is h i s)
 
 -- in a day it is the opening sum plus accepted deposits
-pub day-money : {n : ℕ} {b l : List ℤ} {T W : Tables} → Begun n b l T → (ch : Chain T W) → moneyOf (W .accounts) ≡ money n (entry b) +ℤ pos (sum n (deposits (made ch)))
-day-money o ch = chain-money (begun-stands o) ch ∙ rw (begun-money o, begun-members o)
+pub day-money : {n : ℕ} {b l : List ℤ} {T : Tables} → Begun n b l T → (qs : List Request) → moneyOf (afterAll qs T .accounts) ≡ money n (entry b) +ℤ pos (sum n (deposits (made qs T)))
+day-money o qs = chain-money (begun-stands o) qs ∙ rw (begun-money o, begun-members o)

@@ -1,6 +1,5 @@
--- Days over the real tables: a chain of calls, each linked to the next by its promise as the contract states it (demand 3).
+-- Days over the real tables: the requests that were made, one after the other, and what they did (demand 3).
 use mathlib.Core.Path.{_≡_}
-use mathlib.Core.Bool.{false, cond}
 use mathlib.Core.List.{List, [], _∷_, _++_}
 use Prim.Native.Nat.{ℕ, suc, _-_, _<_}
 use lib.IntN.{ℤ}
@@ -9,85 +8,67 @@ use Rattle.rule.specs.Payment.{word, payerOf, payeeOf, amountOf}
 use Rattle.rule.specs.House.{House, Same}
 use Rattle.rule.specs.Day.{Call, deposit, submit, settle}
 use Rattle.rule.specs.Table.{queueOf}
-use Rattle.tables.specs.Layout.{countOf, lastOf, settledOf, wordsOf, houseOf}
-use Rattle.tables.specs.Holds.{Holds}
+use Rattle.tables.specs.Layout.{Tables, membersIn, wordsIn, houseIn, lastOf, settledOf}
 use Rattle.booking.specs.Booking.{listed}
-use Rattle.opening.specs.Open.{isOpened, entry}
-use Rattle.entry.specs.Deposit.{isDeposited}
-use Rattle.entry.specs.Submit.{isSubmitted}
-use Rattle.settling.specs.Release.{isReleased, onlyHead}
-use Rattle.settling.specs.Group.{isGrouped}
-use Rattle.resolving.specs.Resolve.{isResolved}
-use Rattle.house.specs.Promises.{OpenPromise, DepositPromise, SubmitPromise, ReleasePromise, GroupPromise, ResolvePromise}
-use Rattle.answers.specs.declared.Opened.{Opened}
+use Rattle.opening.specs.Open.{openAct, entry}
+use Rattle.entry.specs.Deposit.{depositAct}
+use Rattle.entry.specs.Submit.{submitAct}
+use Rattle.settling.specs.Release.{releaseAct, onlyHead}
+use Rattle.settling.specs.Group.{groupAct}
+use Rattle.resolving.specs.Resolve.{resolveAct, largestIn}
+use Rattle.answers.specs.Outcome.{Act, outcome, held, judgement, called}
+use Rattle.answers.specs.declared.Judged.{Judged}
+use Rattle.answers.specs.declared.Judged.the-variants.{Fine, Bad}
 use Rattle.answers.specs.declared.Opened.the-variants as opening
-use Rattle.answers.specs.declared.Deposited.{Deposited}
-use Rattle.answers.specs.declared.Submitted.{Submitted}
-use Rattle.answers.specs.declared.Released.{Released}
-use Rattle.answers.specs.declared.Grouped.{Grouped}
-use Rattle.answers.specs.declared.Resolved.{Resolved}
 use Rattle.answers.specs.declared.Resolved.the-variants.{Done}
 use Rattle.answers.specs.declared.Resolution.{Resolution}
 
--- the three lent lists
-pub record Tables : Type 0 where
-  pub accounts : List ℤ
-  pub counters : List ℕ
-  pub pays : List ℕ
-
-abbrev pub membersOf : Tables → ℕ
-membersOf T = countOf (T .counters)
-
-abbrev pub houseIn : Tables → House
-houseIn T = houseOf (T .accounts) (T .counters) (T .pays)
-
--- they hold a state
-abbrev pub Stands : Tables → Type 0
-Stands T = Holds (T .accounts) (T .counters) (T .pays)
-
 -- ---- a day
 
--- a call that was made on the tables T and left the tables W, accepted or refused; an open only if it was refused
-pub data Link (T W : Tables) : Type 0 where
-  opens : (n : ℕ) (b l : List ℤ) (r : Opened)
-      → OpenPromise (T .accounts) (T .counters) (T .pays) n b l (W .accounts) (W .counters) (W .pays) r → isOpened r ≡ false → Link T W
-  deposits : (m x : ℕ) (r : Deposited) → DepositPromise (T .accounts) (T .counters) (T .pays) m x (W .accounts) r
-      → W .counters ≡ T .counters → W .pays ≡ T .pays → Link T W
-  submits : (m n q x : ℕ) (r : Submitted) → SubmitPromise (T .accounts) (T .counters) (T .pays) m n q x (W .counters) (W .pays) r
-      → W .accounts ≡ T .accounts → Link T W
-  releases : (m : ℕ) (r : Released) → ReleasePromise (T .accounts) (T .counters) (T .pays) m (W .accounts) (W .counters) (W .pays) r → Link T W
-  groups : (k : List ℕ) (r : Grouped) → GroupPromise (T .accounts) (T .counters) (T .pays) k (W .accounts) (W .counters) (W .pays) r → Link T W
-  resolves : (k k′ : List ℕ) (r : Resolved)
-      → ResolvePromise (T .accounts) (T .counters) (T .pays) k (W .accounts) (W .counters) (W .pays) k′ r
-      → Link T W
+-- a request, in the words of the calls. An open is none: inside a day it is refused, and changes nothing.
+pub data Request : Type 0 where
+  deposits : (m x : ℕ) → Request
+  submits : (m n q x : ℕ) → Request
+  releases : (m : ℕ) → Request
+  groups : (k : List ℕ) → Request
+  resolves : (k : List ℕ) → Request
 
--- what a call did, in the rule's words: nothing where it was refused
-abbrev pub did : {T W : Tables} → Link T W → List Call
-did (opens n b l r p e) = []
-did (deposits m x r p e f) = cond (isDeposited r) (deposit (m - 1) x ∷ []) []
-did (submits m n q x r p e) = cond (isSubmitted r) (submit (word (m - 1) (q - 1) x) ∷ []) []
-did (releases m r p) = cond (isReleased r) (settle (onlyHead m) ∷ []) []
-did (groups k r p) = cond (isGrouped r) (settle (listed k) ∷ []) []
-did (resolves k k′ r p) = cond (isResolved r) (settle (listed k′) ∷ []) []
+-- the tables after it, accepted or refused
+abbrev pub after : Request → Tables → Tables
+after (deposits m x) T = called (depositAct m x) T .after
+after (submits m n q x) T = called (submitAct m n q x) T .after
+after (releases m) T = called (releaseAct m) T .after
+after (groups k) T = called (groupAct k) T .after
+after (resolves k) T = called (resolveAct k) T .after
 
--- calls one after the other, each on the tables as the one before left them
-pub data Chain : Tables → Tables → Type 0 where
-  none : {T : Tables} → Chain T T
-  then : {T U W : Tables} → Link T U → Chain U W → Chain T W
+-- nothing where it was refused
+abbrev pub accepted : Judged → List Call → List Call
+accepted Fine cs = cs
+accepted (Bad r) cs = []
 
-abbrev pub made : {T W : Tables} → Chain T W → List Call
-made none = []
-made (then l ls) = did l ++ made ls
+-- what it did, in the rule's words
+abbrev pub did : Request → Tables → List Call
+did (deposits m x) T = accepted (judgement (depositAct m x) T) (deposit (m - 1) x ∷ [])
+did (submits m n q x) T = accepted (judgement (submitAct m n q x) T) (submit (word (m - 1) (q - 1) x) ∷ [])
+did (releases m) T = accepted (judgement (releaseAct m) T) (settle (onlyHead m) ∷ [])
+did (groups k) T = accepted (judgement (groupAct k) T) (settle (listed k) ∷ [])
+did (resolves k) T = accepted (judgement (resolveAct k) T) (settle (listed (largestIn T)) ∷ [])
 
--- a stretch of a day that ends in an accepted resolution
-pub record Ended (T W : Tables) : Type 0 where
-  pub eve : Tables
-  pub chain : Chain T eve
+-- requests one after the other, each on the tables as the one before left them
+abbrev pub afterAll : List Request → Tables → Tables
+afterAll [] T = T
+afterAll (q ∷ qs) T = afterAll qs (after q T)
+
+abbrev pub made : List Request → Tables → List Call
+made [] T = []
+made (q ∷ qs) T = did q T ++ made qs (after q T)
+
+-- the requests, and then a resolution with the lent list `given`, which was accepted: it told `told`, and left the tables W
+pub record Ended (T : Tables) (qs : List Request) (W : Tables) : Type 0 where
   pub given : List ℕ
   pub told : List ℕ
   pub resolution : Resolution
-  pub last : ResolvePromise (eve .accounts) (eve .counters) (eve .pays) given
-      (W .accounts) (W .counters) (W .pays) told (Done resolution)
+  pub last : called (resolveAct given) (afterAll qs T) ≡ outcome (Done resolution, told) W
 
 -- ---- the opening of a day
 
@@ -99,7 +80,7 @@ openingOf b l = record { line = λ i. up (entry l i); balance = entry b; queue =
 pub record Begun (n : ℕ) (b l : List ℤ) (T : Tables) : Type 0 where
   pub before : Tables
   pub sum : ℤ
-  pub promise : OpenPromise (before .accounts) (before .counters) (before .pays) n b l (T .accounts) (T .counters) (T .pays) (opening.Done sum)
+  pub promise : held (openAct n b l) before ≡ outcome (opening.Done sum) T
 
 -- ---- what is compared
 
@@ -117,10 +98,10 @@ numbered n (w ∷ ws) = record { payer = payerOf w; number = n; payee = payeeOf 
 
 -- the queue of member i, with numbers
 abbrev pub queueIn : Tables → ℕ → List Waiting
-queueIn T i = numbered (suc (settledOf (T .counters) i)) (queueOf i (wordsOf (T .counters) (T .pays)))
+queueIn T i = numbered (suc (settledOf (T .counters) i)) (queueOf i (wordsIn T))
 
 -- two tables hold houses with equal member counts, lines, balances, queues and last numbers; the places may differ
 pub record Equal (T W : Tables) : Type 0 where
-  pub members : membersOf W ≡ membersOf T
-  pub same : Same (membersOf T) (houseIn T) (houseIn W)
-  pub lasts : (i : ℕ) → i < membersOf T → lastOf (W .counters) i ≡ lastOf (T .counters) i
+  pub members : membersIn W ≡ membersIn T
+  pub same : Same (membersIn T) (houseIn T) (houseIn W)
+  pub lasts : (i : ℕ) → i < membersIn T → lastOf (W .counters) i ≡ lastOf (T .counters) i

@@ -1,7 +1,6 @@
 -- An accepted deposit leaves a state, and is the rule's deposit: from what its judgement found, and from the one place of the accounts that is set.
 use mathlib.Core.Path.{_≡_, refl, sym, ap, _∙_}
 use mathlib.Core.Logic.{_≢_}
-use mathlib.Core.List.{List}
 use Prim.Native.Nat.{ℕ, _+_, _-_, _<_, _≤_}
 use native.Mathlib.Decide.{ℕ-discrete}
 use native.Mathlib.Omega.{arith}
@@ -14,12 +13,11 @@ use Rattle.rule.specs.Ints.{up}
 use Rattle.rule.proofs.Ints.{plus, plus-zero, le-of, ≤ℤ-is}
 use Rattle.rule.proofs.Sums.{sum-only, eqb-same, eqb-other}
 use Rattle.rule.proofs.Money.{money-credited, money-same}
-use Rattle.tables.specs.Layout.{countOf, balanceOf, moneyOf, houseOf}
+use Rattle.tables.specs.Layout.{Tables, membersIn, houseIn, balanceOf, moneyOf}
 use Rattle.tables.specs.Sizes.{members}
 use Rattle.tables.specs.Holds.{Holder, Holds}
-use Rattle.answers.specs.declared.Deposited.the-variants.{Done}
-use Rattle.entry.specs.Deposit.{heldDeposit, accountsDeposited}
-use Rattle.entry.proofs.Judging.{Deposits, deposit-done}
+use Rattle.entry.specs.Deposit.{depositedIn}
+use Rattle.entry.proofs.Judging.{Deposits}
 
 holder-more : {b l : ℤ} (x : ℕ) → Holder b l → Holder (b +ℤ pos x) l
 holder-more {b} {l} x h = record {
@@ -28,56 +26,55 @@ holder-more {b} {l} x h = record {
   cover = le-of (pos 0) (b +ℤ pos x +ℤ l) (omega (arith, ≤ℤ-is (pos 0) (b +ℤ l) (h .cover), plus b l, plus b (pos x), plus (b +ℤ pos x) l));
 }
 
-module _ {a : List ℤ} {c p : List ℕ} {m x : ℕ} (h : Holds a c p) (d : Deposits a c m x) where
-  seat : m - 1 < countOf c
+module _ {T : Tables} {m x : ℕ} (h : Holds T) (d : Deposits T m x) where
+  seat : m - 1 < membersIn T
   seat = omega (arith, d .one, d .within)
 
-  other : (k : ℕ) → k ≢ m - 1 → getD (accountsDeposited a m x) k (pos 0) ≡ getD a k (pos 0)
-  other k ne = getD-set-other a (m - 1) k (balanceOf a (m - 1) +ℤ pos x) (pos 0) ne
+  other : (k : ℕ) → k ≢ m - 1 → getD (depositedIn T m x .accounts) k (pos 0) ≡ getD (T .accounts) k (pos 0)
+  unfolding depositedIn
+  other k ne = getD-set-other (T .accounts) (m - 1) k (balanceOf (T .accounts) (m - 1) +ℤ pos x) (pos 0) ne
 
-  later : (k : ℕ) → 64 ≤ k → getD (accountsDeposited a m x) k (pos 0) ≡ getD a k (pos 0)
-  later k l = other k (λ e. omega (arith, seat, h .few))
+  later : (k : ℕ) → 64 ≤ k → getD (depositedIn T m x .accounts) k (pos 0) ≡ getD (T .accounts) k (pos 0)
+  later k l = other k (λ e. omega (arith, seat, h .counters .few))
 
   -- the member's balance is x more, and each other stays,
-  pub deposits-balance : (i : ℕ) → balanceOf (accountsDeposited a m x) i ≡ balanceOf a i +ℤ pos (onlyFor (m - 1) x i)
+  pub deposits-balance : (i : ℕ) → balanceOf (depositedIn T m x .accounts) i ≡ balanceOf (T .accounts) i +ℤ pos (onlyFor (m - 1) x i)
+  unfolding depositedIn
   deposits-balance i = elim (ℕ-discrete (m - 1) i) [
-    | yes e ↦ rw (eqb-same e) (ap (balanceOf (accountsDeposited a m x)) (sym e) ∙ getD-set-same a (m - 1) (balanceOf a (m - 1) +ℤ pos x) (pos 0) (omega (arith, seat, h .few, h .long)) ∙ ap (λ j. balanceOf a j +ℤ pos x) e)
-    | no e ↦ rw (eqb-other e) (other i (λ q. e (sym q)) ∙ sym (plus-zero (balanceOf a i)))
+    | yes e ↦ rw (eqb-same e) (ap (balanceOf (depositedIn T m x .accounts)) (sym e) ∙ getD-set-same (T .accounts) (m - 1) (balanceOf (T .accounts) (m - 1) +ℤ pos x) (pos 0) (omega (arith, seat, h .counters .few, h .accounts .long)) ∙ ap (λ j. balanceOf (T .accounts) j +ℤ pos x) e)
+    | no e ↦ rw (eqb-other e) (other i (λ q. e (sym q)) ∙ sym (plus-zero (balanceOf (T .accounts) i)))
   ]
 
   -- so that the sum of all is x more,
-  pub deposits-money : moneyOf (accountsDeposited a m x) ≡ moneyOf a +ℤ pos x
+  pub deposits-money : moneyOf (depositedIn T m x .accounts) ≡ moneyOf (T .accounts) +ℤ pos x
   deposits-money =
-      money-same members (λ i. balanceOf a i +ℤ pos (onlyFor (m - 1) x i)) (balanceOf (accountsDeposited a m x)) (λ i l. deposits-balance i)
-      ∙ money-credited members (houseOf a c p) (onlyFor (m - 1) x)
-      ∙ ap (λ s. moneyOf a +ℤ pos s) (sum-only members (m - 1) x (omega (arith, seat, h .few)))
+      money-same members (λ i. balanceOf (T .accounts) i +ℤ pos (onlyFor (m - 1) x i)) (balanceOf (depositedIn T m x .accounts)) (λ i l. deposits-balance i)
+      ∙ money-credited members (houseIn T) (onlyFor (m - 1) x)
+      ∙ ap (λ s. moneyOf (T .accounts) +ℤ pos s) (sum-only members (m - 1) x (omega (arith, seat, h .counters .few)))
 
-  -- the tables hold a state,
-  pub deposits-hold : Holds (accountsDeposited a m x) c p
+  -- the tables hold a state: only the accounts have changed,
+  pub deposits-hold : Holds (depositedIn T m x)
+  unfolding depositedIn
   deposits-hold = record {
-    long = simp length-set (h .long);
-    broad = h .broad;
-    deep = h .deep;
-    one = h .one;
-    few = h .few;
-    room = h .room;
-    holders = λ i l. rw (deposits-balance i, later (64 + i) (omega arith)) (holder-more (onlyFor (m - 1) x i) (h .holders i l));
-    sum = rw deposits-money (d .sum);
-    words = h .words;
+    counters = h .counters;
+    accounts = record {
+      long = simp length-set (h .accounts .long);
+      holders = λ i l. rw (deposits-balance i, later (64 + i) (omega arith)) (holder-more (onlyFor (m - 1) x i) (h .accounts .holders i l));
+      sum = rw deposits-money (d .sum);
+      no-balance = λ i l q. other i (λ e. omega (arith, seat)) ∙ h .accounts .no-balance i l q;
+      no-line = λ i l q. later (64 + i) (omega arith) ∙ h .accounts .no-line i l q;
+      spare = λ k q. later (128 + k) (omega arith) ∙ h .accounts .spare k q;
+    };
+    places = h .places;
     numbers = h .numbers;
-    no-balance = λ i l q. other i (λ e. omega (arith, seat)) ∙ h .no-balance i l q;
-    no-line = λ i l q. later (64 + i) (omega arith) ∙ h .no-line i l q;
-    no-number = h .no-number;
-    no-payment = h .no-payment;
-    spare-accounts = λ k q. later (128 + k) (omega arith) ∙ h .spare-accounts k q;
-    spare-counters = h .spare-counters;
-    later-counters = h .later-counters;
   }
 
-  -- and the house is the one after the rule's deposit
-  pub deposits-call : Same (countOf c) (call (countOf c) (houseOf a c p) (deposit (m - 1) x)) (houseOf (accountsDeposited a m x) c p)
-  deposits-call = record { lines = λ i l. ap up (later (64 + i) (omega arith)); balances = λ i l. deposits-balance i; queues = λ i l. refl }
+  -- of the same counters,
+  pub deposits-counters : depositedIn T m x .counters ≡ T .counters
+  unfolding depositedIn
+  deposits-counters = refl
 
--- an accepted deposit leaves a state
-pub deposit-holds : {a : List ℤ} {c p : List ℕ} (m x : ℕ) {b : ℤ} → Holds a c p → heldDeposit a c m x ≡ Done b → Holds (accountsDeposited a m x) c p
-deposit-holds m x h e = deposits-hold h (deposit-done _ _ m x e)
+  -- and the house is the one after the rule's deposit
+  pub deposits-call : Same (membersIn T) (call (membersIn T) (houseIn T) (deposit (m - 1) x)) (houseIn (depositedIn T m x))
+  unfolding depositedIn
+  deposits-call = record { lines = λ i l. ap up (later (64 + i) (omega arith)); balances = λ i l. deposits-balance i; queues = λ i l. refl }

@@ -18,11 +18,10 @@ use Rattle.rule.specs.Day.{submit, call, Accepts, onlyFor}
 use Rattle.rule.specs.Table.{queueOf}
 use Rattle.rule.proofs.Payments.{payer-word, payee-word, amount-word, flags-word}
 use Rattle.rule.proofs.Sums.{eqb-same, eqb-other}
-use Rattle.tables.specs.Layout.{countOf, waitingOf, lastOf, settledOf, wordsOf, houseOf}
+use Rattle.tables.specs.Layout.{Tables, membersIn, waitingIn, wordsIn, houseIn, lastOf, settledOf}
 use Rattle.tables.specs.Holds.{Payment, Holds}
-use Rattle.answers.specs.declared.Submitted.the-variants.{Done}
-use Rattle.entry.specs.Submit.{heldSubmit, countersSubmitted, paysSubmitted}
-use Rattle.entry.proofs.Judging.{Submits, submit-done}
+use Rattle.entry.specs.Submit.{submittedIn}
+use Rattle.entry.proofs.Judging.{Submits}
 
 -- a payment at the end of the table stands at the tail of its payer's queue
 pub queue-snoc : (i : ℕ) (t : List ℕ) (w : ℕ) → queueOf i (t ++ (w ∷ [])) ≡ queueOf i t ++ just (payerOf w) w i
@@ -41,19 +40,19 @@ just-long j w i = go (eqb j i)
     go true = refl
     go false = refl
 
-module _ {a : List ℤ} {c p : List ℕ} {m n q x : ℕ} (h : Holds a c p) (s : Submits c m n q x) where
+module _ {T : Tables} {m n q x : ℕ} (h : Holds T) (s : Submits T m n q x) where
   payer : m - 1 < 64
-  payer = omega (arith, s .one, s .within, h .few)
+  payer = omega (arith, s .one, s .within, h .counters .few)
 
   payee : q - 1 < 64
-  payee = omega (arith, s .to, s .known, h .few)
+  payee = omega (arith, s .to, s .known, h .counters .few)
 
   payer-is : payerOf (word (m - 1) (q - 1) x) ≡ m - 1
   payer-is = payer-word (m - 1) (q - 1) x payer payee
 
   -- ---- the payment
 
-  submits-payment : Payment (countOf c) (word (m - 1) (q - 1) x)
+  submits-payment : Payment (membersIn T) (word (m - 1) (q - 1) x)
   submits-payment =
       let r = payer-is in
       let e = payee-word (m - 1) (q - 1) x payer payee in
@@ -69,86 +68,100 @@ module _ {a : List ℤ} {c p : List ℕ} {m n q x : ℕ} (h : Holds a c p) (s : 
 
   -- ---- the counters
 
-  cell : (j : ℕ) → j ≢ 1 → j ≢ 64 + (m - 1) → getD (countersSubmitted c m n) j 0 ≡ getD c j 0
-  cell j u v = getD-set-other (set c 1 (waitingOf c + 1)) (64 + (m - 1)) j n 0 v ∙ getD-set-other c 1 j (waitingOf c + 1) 0 u
+  cell : (j : ℕ) → j ≢ 1 → j ≢ 64 + (m - 1) → getD (submittedIn T m n q x .counters) j 0 ≡ getD (T .counters) j 0
+  unfolding submittedIn
+  cell j u v = getD-set-other (set (T .counters) 1 (waitingIn T + 1)) (64 + (m - 1)) j n 0 v ∙ getD-set-other (T .counters) 1 j (waitingIn T + 1) 0 u
 
-  -- the count stays,
-  pub submits-count : countOf (countersSubmitted c m n) ≡ countOf c
+  -- the accounts stay,
+  pub submits-accounts : submittedIn T m n q x .accounts ≡ T .accounts
+  unfolding submittedIn
+  submits-accounts = refl
+
+  -- and the count,
+  pub submits-count : membersIn (submittedIn T m n q x) ≡ membersIn T
+  unfolding submittedIn
   submits-count = cell 0 (λ e. omega arith) (λ e. omega arith)
 
   -- one more payment waits,
-  pub submits-waiting : waitingOf (countersSubmitted c m n) ≡ waitingOf c + 1
+  pub submits-waiting : waitingIn (submittedIn T m n q x) ≡ waitingIn T + 1
+  unfolding submittedIn
   submits-waiting =
-      getD-set-other (set c 1 (waitingOf c + 1)) (64 + (m - 1)) 1 n 0 (λ e. omega arith)
-      ∙ getD-set-same c 1 (waitingOf c + 1) 0 (omega (arith, h .broad))
+      getD-set-other (set (T .counters) 1 (waitingIn T + 1)) (64 + (m - 1)) 1 n 0 (λ e. omega arith)
+      ∙ getD-set-same (T .counters) 1 (waitingIn T + 1) 0 (omega (arith, h .counters .broad))
 
   -- and the payer's last number is one more, and each other's stays
-  pub submits-last : (i : ℕ) → lastOf (countersSubmitted c m n) i ≡ lastOf c i + onlyFor (m - 1) 1 i
+  pub submits-last : (i : ℕ) → lastOf (submittedIn T m n q x .counters) i ≡ lastOf (T .counters) i + onlyFor (m - 1) 1 i
+  unfolding submittedIn
   submits-last i = elim (ℕ-discrete (m - 1) i) [
-    | yes e ↦ rw (eqb-same e) (ap (lastOf (countersSubmitted c m n)) (sym e) ∙ getD-set-same (set c 1 (waitingOf c + 1)) (64 + (m - 1)) n 0 (simp length-set (omega (arith, h .broad, payer))) ∙ s .next ∙ ap (λ j. lastOf c j + 1) e)
+    | yes e ↦ rw (eqb-same e) (ap (lastOf (submittedIn T m n q x .counters)) (sym e) ∙ getD-set-same (set (T .counters) 1 (waitingIn T + 1)) (64 + (m - 1)) n 0 (simp length-set (omega (arith, h .counters .broad, payer))) ∙ s .next ∙ ap (λ j. lastOf (T .counters) j + 1) e)
     | no e ↦ rw (eqb-other e) (cell (64 + i) (λ g. omega arith) (λ g. e (omega arith)) ∙ omega arith)
   ]
 
-  submits-settled : (i : ℕ) → settledOf (countersSubmitted c m n) i ≡ settledOf c i
+  submits-settled : (i : ℕ) → settledOf (submittedIn T m n q x .counters) i ≡ settledOf (T .counters) i
+  unfolding submittedIn
   submits-settled i = cell (128 + i) (λ e. omega arith) (λ e. omega (arith, payer))
 
   -- ---- the places
 
-  there : (k : ℕ) → k ≢ waitingOf c → getD (paysSubmitted c p m q x) k 0 ≡ getD p k 0
-  there k ne = getD-set-other p (waitingOf c) k (word (m - 1) (q - 1) x) 0 ne
+  there : (k : ℕ) → k ≢ waitingIn T → getD (submittedIn T m n q x .pays) k 0 ≡ getD (T .pays) k 0
+  unfolding submittedIn
+  there k ne = getD-set-other (T .pays) (waitingIn T) k (word (m - 1) (q - 1) x) 0 ne
 
-  submits-words : wordsOf (countersSubmitted c m n) (paysSubmitted c p m q x) ≡ wordsOf c p ++ (word (m - 1) (q - 1) x ∷ [])
-  submits-words = rw (submits-waiting, add-one) (take-suc-set p (waitingOf c) (word (m - 1) (q - 1) x) (omega (arith, s .room, h .deep)))
+  submits-words : wordsIn (submittedIn T m n q x) ≡ wordsIn T ++ (word (m - 1) (q - 1) x ∷ [])
+  unfolding submittedIn
+  submits-words = rw (submits-waiting, add-one) (take-suc-set (T .pays) (waitingIn T) (word (m - 1) (q - 1) x) (omega (arith, s .room, h .places .deep)))
 
   -- the payment stands at the tail of its payer's queue, and the other queues stay
-  pub submits-queue : (i : ℕ) → queueOf i (wordsOf (countersSubmitted c m n) (paysSubmitted c p m q x)) ≡ queueOf i (wordsOf c p) ++ just (payerOf (word (m - 1) (q - 1) x)) (word (m - 1) (q - 1) x) i
-  submits-queue i = ap (queueOf i) submits-words ∙ queue-snoc i (wordsOf c p) (word (m - 1) (q - 1) x)
+  pub submits-queue : (i : ℕ) → queueOf i (wordsIn (submittedIn T m n q x)) ≡ queueOf i (wordsIn T) ++ just (payerOf (word (m - 1) (q - 1) x)) (word (m - 1) (q - 1) x) i
+  unfolding submittedIn
+  submits-queue i = ap (queueOf i) submits-words ∙ queue-snoc i (wordsIn T) (word (m - 1) (q - 1) x)
 
-  payment-at : (k : ℕ) → k < waitingOf c + 1 → Payment (countOf c) (getD (paysSubmitted c p m q x) k 0)
-  payment-at k l = elim (decLt k (waitingOf c)) [
-    | yes y ↦ rw (there k (λ e. omega arith)) (h .words k y)
+  payment-at : (k : ℕ) → k < waitingIn T + 1 → Payment (membersIn T) (getD (submittedIn T m n q x .pays) k 0)
+  unfolding submittedIn
+  payment-at k l = elim (decLt k (waitingIn T)) [
+    | yes y ↦ rw (there k (λ e. omega arith)) (h .places .words k y)
     | no y ↦
-        let e : k ≡ waitingOf c = omega arith in
-        rw (e, getD-set-same p (waitingOf c) (word (m - 1) (q - 1) x) 0 (omega (arith, s .room, h .deep))) submits-payment
+        let e : k ≡ waitingIn T = omega arith in
+        rw (e, getD-set-same (T .pays) (waitingIn T) (word (m - 1) (q - 1) x) 0 (omega (arith, s .room, h .places .deep))) submits-payment
   ]
 
-  submits-numbers : (i : ℕ) → i < 64 → settledOf (countersSubmitted c m n) i + length (queueOf i (wordsOf (countersSubmitted c m n) (paysSubmitted c p m q x))) ≡ lastOf (countersSubmitted c m n) i
+  submits-numbers : (i : ℕ) → i < 64 → settledOf (submittedIn T m n q x .counters) i + length (queueOf i (wordsIn (submittedIn T m n q x))) ≡ lastOf (submittedIn T m n q x .counters) i
+  unfolding submittedIn
   submits-numbers i l =
       rw (submits-settled i, submits-queue i, length-append, just-long, payer-is, submits-last i)
-      (omega (arith, h .numbers i l))
+      (omega (arith, h .numbers .each i l))
 
   -- ---- the state
 
   -- the tables hold a state,
-  pub submits-hold : Holds a (countersSubmitted c m n) (paysSubmitted c p m q x)
+  pub submits-hold : Holds (submittedIn T m n q x)
+  unfolding submittedIn
   submits-hold = record {
-    long = h .long;
-    broad = simp length-set (h .broad);
-    deep = simp length-set (h .deep);
-    one = rw submits-count (h .one);
-    few = rw submits-count (h .few);
-    room = rw submits-waiting (omega (arith, s .room));
-    holders = rw submits-count (h .holders);
-    sum = h .sum;
-    words = rw (submits-count, submits-waiting) payment-at;
-    numbers = submits-numbers;
-    no-balance = rw submits-count (h .no-balance);
-    no-line = rw submits-count (h .no-line);
-    no-number = rw submits-count (λ i l r. cell (64 + i) (λ e. omega arith) (λ e. omega (arith, s .one, s .within)) ∙ h .no-number i l r);
-    no-payment = rw submits-waiting (λ k l r. there k (λ e. omega arith) ∙ h .no-payment k (omega arith) r);
-    spare-accounts = h .spare-accounts;
-    spare-counters = λ k r. cell (2 + k) (λ e. omega arith) (λ e. omega arith) ∙ h .spare-counters k r;
-    later-counters = λ k r. cell (192 + k) (λ e. omega arith) (λ e. omega (arith, payer)) ∙ h .later-counters k r;
+    counters = record {
+      broad = simp length-set (h .counters .broad);
+      one = rw submits-count (h .counters .one);
+      few = rw submits-count (h .counters .few);
+      room = rw submits-waiting (omega (arith, s .room));
+      spare = λ k r. cell (2 + k) (λ e. omega arith) (λ e. omega arith) ∙ h .counters .spare k r;
+      later = λ k r. cell (192 + k) (λ e. omega arith) (λ e. omega (arith, payer)) ∙ h .counters .later k r;
+    };
+    accounts = rw submits-count (h .accounts);
+    places = rw (submits-count, submits-waiting) (record {
+      deep = simp length-set (h .places .deep);
+      words = payment-at;
+      no-payment = λ k l r. there k (λ e. omega arith) ∙ h .places .no-payment k (omega arith) r;
+    });
+    numbers = record {
+      each = submits-numbers;
+      no-number = rw submits-count (λ i l r. cell (64 + i) (λ e. omega arith) (λ e. omega (arith, s .one, s .within)) ∙ h .numbers .no-number i l r);
+    };
   }
 
   -- the payment is one that the rule accepts,
-  pub submits-accepts : Accepts (countOf c) (houseOf a c p) (submit (word (m - 1) (q - 1) x))
+  pub submits-accepts : Accepts (membersIn T) (houseIn T) (submit (word (m - 1) (q - 1) x))
   submits-accepts = let w = submits-payment in (w .payee, λ e. w .other (sym e))
 
   -- and the house is the one after it
-  pub submits-call : Same (countOf c) (call (countOf c) (houseOf a c p) (submit (word (m - 1) (q - 1) x))) (houseOf a (countersSubmitted c m n) (paysSubmitted c p m q x))
+  pub submits-call : Same (membersIn T) (call (membersIn T) (houseIn T) (submit (word (m - 1) (q - 1) x))) (houseIn (submittedIn T m n q x))
+  unfolding submittedIn
   submits-call = record { lines = λ i l. refl; balances = λ i l. refl; queues = λ i l. submits-queue i }
-
--- an accepted submission leaves a state
-pub submit-holds : {a : List ℤ} {c p : List ℕ} (m n q x : ℕ) → Holds a c p → heldSubmit c m n q x ≡ Done → Holds a (countersSubmitted c m n) (paysSubmitted c p m q x)
-submit-holds m n q x h e = submits-hold h (submit-done _ m n q x e)

@@ -10,21 +10,27 @@ use tables::steps::at_most;
 use tables::steps::plus;
 use tables::steps::signed;
 ghost use mathlib.Core.Path.{_≡_};
-ghost use mathlib.Core.Bool.{cond};
 ghost use Prim.Native.Nat.{_<_, _≤_};
 ghost use lib.IntN.{pos, _+ℤ_};
 ghost use lib.ListN.{set};
 ghost use Rattle.tables.specs.Sizes.{limit};
-ghost use Rattle.tables.specs.Layout.{balanceOf};
+ghost use Rattle.tables.specs.Layout.{tables, countOf, balanceOf};
 ghost use Rattle.tables.specs.Needs.{Bounded};
-ghost use Rattle.tables.specs.Holds.{Accounts};
-ghost use Rattle.entry.specs.Deposit.{judgeDeposit, heldDeposit, isDeposited, accountsDeposited};
+ghost use Rattle.tables.specs.Holds.{Counters, Accounts, Holds};
+ghost use Rattle.answers.specs.Codes.{first};
+ghost use Rattle.answers.specs.Outcome.{outcome, held};
+ghost use Rattle.entry.specs.Deposit.{depositTests, depositAct};
 
 // A deposit to a member.
-pub fn deposit(accounts: &mut [i64], counters: &[u32], member: u64, amount: u64) -> Deposited
-    requires { ⌜ Accounts (now accounts) (now counters) ⌝ }
-    ensures { λ r. ⌜ r ≡ heldDeposit (now (accounts .entry)) (now (counters .entry)) member amount ⌝ }
-    ensures { λ r. ⌜ now (accounts .exit) ≡ cond (isDeposited r) (accountsDeposited (now (accounts .entry)) member amount) (now (accounts .entry)) ⌝ }
+pub fn deposit(
+    accounts: &mut [i64],
+    counters: &[u32],
+    pays: &[u64],
+    member: u64,
+    amount: u64,
+) -> Deposited
+    requires { ⌜ Holds (tables (now accounts) (now counters) (now pays)) ⌝ }
+    ensures { λ r. ⌜ outcome r (tables (now (accounts .exit)) (now (counters .entry)) (now (pays .entry))) ≡ held (depositAct member amount) (tables (now (accounts .entry)) (now (counters .entry)) (now (pays .entry))) ⌝ }
 {
     let j = judge_deposit(accounts, counters, member, amount);
     match j {
@@ -34,8 +40,8 @@ pub fn deposit(accounts: &mut [i64], counters: &[u32], member: u64, amount: u64)
 }
 
 fn judge_deposit(accounts: &[i64], counters: &[u32], member: u64, amount: u64) -> Judged
-    requires { ⌜ Accounts (now accounts) (now counters) ⌝ }
-    ensures { λ r. ⌜ r ≡ judgeDeposit (now (accounts .entry)) (now (counters .entry)) member amount ⌝ }
+    requires { ⌜ Counters (now counters) × Accounts (countOf (now counters)) (now accounts) ⌝ }
+    ensures { λ r. ⌜ r ≡ first (depositTests (now (accounts .entry)) (now (counters .entry)) member amount) ⌝ }
 {
     if !is_member(counters, member) {
         return Judged::Bad(Refusal::Member);

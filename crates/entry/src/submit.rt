@@ -7,17 +7,19 @@ use answers::judge::is_member;
 use tables::House;
 use tables::steps::wide;
 ghost use mathlib.Core.Path.{_≡_};
-ghost use mathlib.Core.Bool.{cond};
 ghost use Prim.Native.Nat.{_+_, _-_, _<_, _≤_};
 ghost use lib.ListN.{length, set};
 ghost use Rattle.rule.specs.Payment.{word};
 ghost use Rattle.tables.specs.Sizes.{limit};
-ghost use Rattle.tables.specs.Layout.{waitingOf, countOf};
-ghost use Rattle.tables.specs.Holds.{Queues};
-ghost use Rattle.entry.specs.Submit.{isNext, judgeSubmit, heldSubmit, isSubmitted, countersSubmitted, paysSubmitted};
+ghost use Rattle.tables.specs.Layout.{tables, waitingOf, countOf};
+ghost use Rattle.tables.specs.Holds.{Holds};
+ghost use Rattle.answers.specs.Codes.{first};
+ghost use Rattle.answers.specs.Outcome.{outcome, held};
+ghost use Rattle.entry.specs.Submit.{isNext, submitTests, submitAct, countersSubmitted};
 
 // A payment at the tail of its payer's queue.
 pub fn submit(
+    accounts: &[i64],
     counters: &mut [u32],
     pays: &mut [u64],
     payer: u64,
@@ -25,10 +27,8 @@ pub fn submit(
     payee: u64,
     amount: u64,
 ) -> Submitted
-    requires { ⌜ Queues (now counters) (now pays) ⌝ }
-    ensures { λ r. ⌜ r ≡ heldSubmit (now (counters .entry)) payer number payee amount ⌝ }
-    ensures { λ r. ⌜ now (counters .exit) ≡ cond (isSubmitted r) (countersSubmitted (now (counters .entry)) payer number) (now (counters .entry)) ⌝ }
-    ensures { λ r. ⌜ now (pays .exit) ≡ cond (isSubmitted r) (paysSubmitted (now (counters .entry)) (now (pays .entry)) payer payee amount) (now (pays .entry)) ⌝ }
+    requires { ⌜ Holds (tables (now accounts) (now counters) (now pays)) ⌝ }
+    ensures { λ r. ⌜ outcome r (tables (now (accounts .entry)) (now (counters .exit)) (now (pays .exit))) ≡ held (submitAct payer number payee amount) (tables (now (accounts .entry)) (now (counters .entry)) (now (pays .entry))) ⌝ }
 {
     let j = judge_submit(counters, payer, number, payee, amount);
     match j {
@@ -44,7 +44,7 @@ pub fn submit(
 
 fn judge_submit(counters: &[u32], payer: u64, number: u64, payee: u64, amount: u64) -> Judged
     requires { ⌜ (512 ≤ length (now counters)) × (countOf (now counters) ≤ 64) ⌝ }
-    ensures { λ r. ⌜ r ≡ judgeSubmit (now (counters .entry)) payer number payee amount ⌝ }
+    ensures { λ r. ⌜ r ≡ first (submitTests (now (counters .entry)) payer number payee amount) ⌝ }
 {
     if !is_member(counters, payer) {
         return Judged::Bad(Refusal::Member);

@@ -7,7 +7,15 @@ use answers::Refusal;
 use answers::Released;
 use answers::Resolved;
 use answers::Submitted;
-ghost use Rattle.house.specs.Promises.{OpenPromise, DepositPromise, SubmitPromise, ReleasePromise, GroupPromise, ResolvePromise};
+ghost use mathlib.Core.Path.{_≡_};
+ghost use Rattle.tables.specs.Layout.{tables};
+ghost use Rattle.answers.specs.Outcome.{outcome, held, called};
+ghost use Rattle.opening.specs.Open.{openAct};
+ghost use Rattle.entry.specs.Deposit.{depositAct};
+ghost use Rattle.entry.specs.Submit.{submitAct};
+ghost use Rattle.settling.specs.Release.{releaseAct};
+ghost use Rattle.settling.specs.Group.{groupAct};
+ghost use Rattle.resolving.specs.Resolve.{resolveAct};
 
 // Opens a house of `count` members on lent tables, whatever they held.
 pub fn open(
@@ -18,7 +26,7 @@ pub fn open(
     balances: &[i64],
     lines: &[i64],
 ) -> Opened
-    ensures { λ r. ⌜ OpenPromise (now (accounts .entry)) (now (counters .entry)) (now (pays .entry)) count (now (balances .entry)) (now (lines .entry)) (now (accounts .exit)) (now (counters .exit)) (now (pays .exit)) r ⌝ }
+    ensures { λ r. ⌜ outcome r (tables (now (accounts .exit)) (now (counters .exit)) (now (pays .exit))) ≡ held (openAct count (now (balances .entry)) (now (lines .entry))) (tables (now (accounts .entry)) (now (counters .entry)) (now (pays .entry))) ⌝ }
 {
     let j = opening::judge(accounts, counters, pays, count, balances, lines);
     match j {
@@ -41,12 +49,12 @@ pub fn deposit(
     member: u64,
     amount: u64,
 ) -> Deposited
-    ensures { λ r. ⌜ DepositPromise (now (accounts .entry)) (now (counters .entry)) (now (pays .entry)) member amount (now (accounts .exit)) r ⌝ }
+    ensures { λ r. ⌜ outcome r (tables (now (accounts .exit)) (now (counters .exit)) (now (pays .exit))) ≡ called (depositAct member amount) (tables (now (accounts .entry)) (now (counters .entry)) (now (pays .entry))) ⌝ }
 {
     if !tables::look::is_state(accounts, counters, pays) {
         return Deposited::Refused(Refusal::State);
     }
-    entry::deposit::deposit(accounts, counters, member, amount)
+    entry::deposit::deposit(accounts, counters, pays, member, amount)
 }
 
 // A payment at the tail of its payer's queue, on any lent tables. It settles nothing.
@@ -59,12 +67,12 @@ pub fn submit(
     payee: u64,
     amount: u64,
 ) -> Submitted
-    ensures { λ r. ⌜ SubmitPromise (now (accounts .entry)) (now (counters .entry)) (now (pays .entry)) payer number payee amount (now (counters .exit)) (now (pays .exit)) r ⌝ }
+    ensures { λ r. ⌜ outcome r (tables (now (accounts .entry)) (now (counters .exit)) (now (pays .exit))) ≡ called (submitAct payer number payee amount) (tables (now (accounts .entry)) (now (counters .entry)) (now (pays .entry))) ⌝ }
 {
     if !tables::look::is_state(accounts, counters, pays) {
         return Submitted::Refused(Refusal::State);
     }
-    entry::submit::submit(counters, pays, payer, number, payee, amount)
+    entry::submit::submit(accounts, counters, pays, payer, number, payee, amount)
 }
 
 // Settles a member's head payment if balance + line reach its amount, on any lent tables.
@@ -74,7 +82,7 @@ pub fn release(
     pays: &mut [u64],
     member: u64,
 ) -> Released
-    ensures { λ r. ⌜ ReleasePromise (now (accounts .entry)) (now (counters .entry)) (now (pays .entry)) member (now (accounts .exit)) (now (counters .exit)) (now (pays .exit)) r ⌝ }
+    ensures { λ r. ⌜ outcome r (tables (now (accounts .exit)) (now (counters .exit)) (now (pays .exit))) ≡ called (releaseAct member) (tables (now (accounts .entry)) (now (counters .entry)) (now (pays .entry))) ⌝ }
 {
     if !tables::look::is_state(accounts, counters, pays) {
         return Released::Refused(Refusal::State);
@@ -89,7 +97,7 @@ pub fn group(
     pays: &mut [u64],
     counts: &[u16],
 ) -> Grouped
-    ensures { λ r. ⌜ GroupPromise (now (accounts .entry)) (now (counters .entry)) (now (pays .entry)) (now (counts .entry)) (now (accounts .exit)) (now (counters .exit)) (now (pays .exit)) r ⌝ }
+    ensures { λ r. ⌜ outcome r (tables (now (accounts .exit)) (now (counters .exit)) (now (pays .exit))) ≡ called (groupAct (now (counts .entry))) (tables (now (accounts .entry)) (now (counters .entry)) (now (pays .entry))) ⌝ }
 {
     if !tables::look::is_state(accounts, counters, pays) {
         return Grouped::Refused(Refusal::State);
@@ -104,7 +112,7 @@ pub fn resolve(
     pays: &mut [u64],
     counts: &mut [u16],
 ) -> Resolved
-    ensures { λ r. ⌜ ResolvePromise (now (accounts .entry)) (now (counters .entry)) (now (pays .entry)) (now (counts .entry)) (now (accounts .exit)) (now (counters .exit)) (now (pays .exit)) (now (counts .exit)) r ⌝ }
+    ensures { λ r. ⌜ outcome (r, now (counts .exit)) (tables (now (accounts .exit)) (now (counters .exit)) (now (pays .exit))) ≡ called (resolveAct (now (counts .entry))) (tables (now (accounts .entry)) (now (counters .entry)) (now (pays .entry))) ⌝ }
 {
     if !tables::look::is_state(accounts, counters, pays) {
         return Resolved::Refused(Refusal::State);

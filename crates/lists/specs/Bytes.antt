@@ -7,6 +7,7 @@ use lib.IntN.{ℤ}
 use lib.ListN.{length}
 use mir.Syntax.{w64}
 use mir.Val.{toZ, ofZ}
+use Rattle.tables.specs.Layout.{Tables, tables}
 use Rattle.words.specs.Row.{rowAt, putRow, plain}
 
 -- the 512 accounts in the bytes s
@@ -24,6 +25,13 @@ paysIn s = rowAt plain 8 2048 s 6144
 -- the bytes s with the accounts a, the counters c and the places p in them, and no other byte changed
 abbrev pub withLists : List ℕ → List ℤ → List ℕ → List ℕ → List ℕ
 withLists s a c p = putRow plain 8 (putRow plain 4 (putRow (ofZ w64) 8 s 0 a) 4096 c) 6144 p
+
+-- the three lists in the bytes, and the bytes with three lists in them
+abbrev pub tablesIn : List ℕ → Tables
+tablesIn s = tables (accountsIn s) (countersIn s) (paysIn s)
+
+abbrev pub withTables : List ℕ → Tables → List ℕ
+withTables s T = withLists s (T .accounts) (T .counters) (T .pays)
 
 -- the tables are long enough
 abbrev pub roomy : ℕ → Bool

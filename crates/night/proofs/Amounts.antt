@@ -1,12 +1,11 @@
 -- What is settled at once stays in its ranges: no more payments than wait, and each of at most 10^12.
 use mathlib.Core.Path.{_≡_, refl, ap}
-use mathlib.Core.Bool.{Bool, true, false, cond, not}
+use mathlib.Core.Bool.{Bool, true, false, cond}
 use mathlib.Core.List.{List, [], _∷_}
 use Prim.Native.Nat.{ℕ, zero, suc, _+_, _-_, _*_, _≤_, _<_}
 use native.Mathlib.Omega.{arith}
 use borrow.Author.Tests.{not-false, eqb-false}
 use lib.Dec.{eqb}
-use lib.IntN.{ℤ}
 use lib.ListN.{length, getD}
 use lib.Seq.{take-all}
 use Rattle.rule.specs.Kernel.{Counts, sum, Under}
@@ -18,15 +17,12 @@ use Rattle.rule.proofs.Sums.{sum-mono}
 use Rattle.rule.proofs.Bounds.{worth-mono}
 use Rattle.sets.specs.Sets.{sizeOf, lowestOf}
 use Rattle.tables.specs.Sizes.{limit}
-use Rattle.tables.specs.Layout.{countOf, settledOf, wordsOf, houseOf}
+use Rattle.tables.specs.Layout.{Tables, membersIn, wordsIn, houseIn}
 use Rattle.tables.specs.Holds.{Payment, Holds}
 use Rattle.tables.proofs.Houses.{queue-each, holds-payment, waiting-sum}
-use Rattle.answers.specs.Codes.{test, isMember}
-use Rattle.settling.specs.Release.{headAmount, headCovered, judgeRelease, answerRelease, heldRelease}
-use Rattle.answers.specs.declared.Refusal.the-variants.{Member, Nothing, Cover}
-use Rattle.answers.specs.declared.Judged.{Judged}
-use Rattle.answers.specs.declared.Judged.the-variants.{Fine, Bad}
-use Rattle.answers.specs.declared.Released.the-variants.{Done}
+use Rattle.answers.specs.Codes.{first, isMember}
+use Rattle.settling.specs.Release.{releaseAct}
+use Rattle.answers.specs.declared.Judged.the-variants.{Fine}
 use Rattle.answers.proofs.Judging.{first-fine, member-in}
 
 total-small : (l : List ℕ) → ((k : ℕ) → k < length l → amountOf (getD l k 0) ≤ limit) → total amountOf l ≤ length l * limit
@@ -37,47 +33,39 @@ sum-scaled : (n : ℕ) (f g : Counts) → ((i : ℕ) → i < n → f i ≤ g i *
 sum-scaled zero f g h = omega arith
 sum-scaled (suc n) f g h = omega (arith, sum-scaled n f g (λ i l. h i (omega arith)), h n (omega arith))
 
-module _ {a : List ℤ} {c p : List ℕ} (h : Holds a c p) where
+module _ {T : Tables} (h : Holds T) where
   -- each payment in a queue is one of at most 10^12,
-  pub queued-small : (i k : ℕ) → k < waits (houseOf a c p) i → amountOf (getD (houseOf a c p .queue i) k 0) ≤ limit
-  queued-small i k l = queue-each (Payment (countOf c)) i (wordsOf c p) (holds-payment h) k l .0 .small
+  pub queued-small : (i k : ℕ) → k < waits (houseIn T) i → amountOf (getD (houseIn T .queue i) k 0) ≤ limit
+  queued-small i k l = queue-each (Payment (membersIn T)) i (wordsIn T) (holds-payment h) k l .0 .small
 
-  sent-small : (z : Counts) (i : ℕ) → z i ≤ waits (houseOf a c p) i → sent (houseOf a c p) z i ≤ waits (houseOf a c p) i * limit
+  sent-small : (z : Counts) (i : ℕ) → z i ≤ waits (houseIn T) i → sent (houseIn T) z i ≤ waits (houseIn T) i * limit
   unfolding sent worth
   sent-small z i l =
-      let q = houseOf a c p .queue i in
+      let q = houseIn T .queue i in
       let e : worth amountOf q (length q) ≡ total amountOf q = ap (total amountOf) (take-all (length q) q (omega arith)) in
       omega (arith, worth-mono amountOf q (z i) (length q) l, e, total-small q (queued-small i))
 
   -- so that a set's payments are few,
-  pub counts-few : (z : Counts) → Under (countOf c) z (waits (houseOf a c p)) → sum (countOf c) z ≤ 2048
-  counts-few z u = omega (arith, sum-mono (countOf c) z (waits (houseOf a c p)) u, waiting-sum h, h .room)
+  pub counts-few : (z : Counts) → Under (membersIn T) z (waits (houseIn T)) → sum (membersIn T) z ≤ 2048
+  counts-few z u = omega (arith, sum-mono (membersIn T) z (waits (houseIn T)) u, waiting-sum h, h .counters .room)
 
   -- and their sum is small
-  pub sum-small : (z : Counts) → Under (countOf c) z (waits (houseOf a c p)) → sum (countOf c) (sent (houseOf a c p) z) ≤ 2048 * limit
-  sum-small z u = omega (arith, sum-scaled (countOf c) (sent (houseOf a c p) z) (waits (houseOf a c p)) (λ i l. sent-small z i (u i l)), waiting-sum h, h .room)
+  pub sum-small : (z : Counts) → Under (membersIn T) z (waits (houseIn T)) → sum (membersIn T) (sent (houseIn T) z) ≤ 2048 * limit
+  sum-small z u = omega (arith, sum-scaled (membersIn T) (sent (houseIn T) z) (waits (houseIn T)) (λ i l. sent-small z i (u i l)), waiting-sum h, h .counters .room)
 
--- an accepted release tells the payer, the number and the amount of its head, which waits
-pub record Heads (a : List ℤ) (c p : List ℕ) (m i k x : ℕ) : Type 0 where
-  pub payer : i ≡ m
-  pub number : k ≡ settledOf c (m - 1) + 1
-  pub amount : x ≡ headAmount a c p m
+-- an accepted release is of a member with payments waiting
+pub record Heads (T : Tables) (m : ℕ) : Type 0 where
   pub one : 1 ≤ m
-  pub within : m ≤ countOf c
-  pub waiting : 0 < waits (houseOf a c p) (m - 1)
+  pub within : m ≤ membersIn T
+  pub waiting : 0 < waits (houseIn T) (m - 1)
 
-pub release-heads : (a : List ℤ) (c p : List ℕ) (m : ℕ) {i k x : ℕ} → heldRelease a c p m ≡ Done i k x → Heads a c p m i k x
-release-heads a c p m {i} {k} {x} e =
-    let g = go (judgeRelease a c p m) e in
-    let f = first-fine (test (not (isMember c m)) Member ∷ test (eqb (waits (houseOf a c p) (m - 1)) 0) Nothing ∷ test (not (headCovered a c p m)) Cover ∷ []) (g .0) in
-    let j = member-in c m (not-false (isMember c m) (f .0)) in
-    let w = eqb-false (waits (houseOf a c p) (m - 1)) 0 (f .1 .0) in
-    record { payer = g .1; number = g .2; amount = g .3; one = j .0; within = j .1; waiting = some (waits (houseOf a c p) (m - 1)) w }
+pub release-heads : {T : Tables} {m : ℕ} → first (releaseAct m .tests T) ≡ Fine → Heads T m
+unfolding releaseAct
+release-heads {T} {m} e =
+    let f = first-fine (releaseAct m .tests T) e in
+    let j = member-in (T .counters) m (not-false (isMember (T .counters) m) (f .0)) in
+    record { one = j .0; within = j .1; waiting = some (waits (houseIn T) (m - 1)) (eqb-false (waits (houseIn T) (m - 1)) 0 (f .1 .0)) }
   where
-    go : (j : Judged) → answerRelease a c p m j ≡ Done i k x → (j ≡ Fine) × (i ≡ m) × (k ≡ settledOf c (m - 1) + 1) × (x ≡ headAmount a c p m)
-    go Fine e = (refl, cc, cc, cc)
-    go (Bad r) e = let z : _≡_ {A = ℕ} 0 1 = cc in absurd (omega arith)
-
     some : (w : ℕ) → (w ≡ 0 → ⊥) → 0 < w
     some zero f = absurd (f refl)
     some (suc w) f = omega arith

@@ -7,11 +7,11 @@ use borrow.Author.Tests.{lt-ltb, le-ltb}
 use lib.IntN.{ℤ}
 use lib.ListN.{length}
 use Rattle.rule.specs.Table.{queueOf}
-use Rattle.tables.specs.Layout.{countOf, lastOf, settledOf, balanceOf, moneyOf, wordsOf}
+use Rattle.tables.specs.Layout.{countOf, lastOf, settledOf, balanceOf, moneyOf, wordsOf, Tables, membersIn}
 use Rattle.tables.specs.Holds.{Holds}
 use Rattle.tables.proofs.Houses.{few-wait}
 use Rattle.print.specs.declared.Says.the-variants as S
-use Rattle.night.specs.Lines.{Tables, endAt}
+use Rattle.night.specs.Lines.{endAt}
 
 -- a member's waiting payments are those accepted and not settled
 pub record Left (c p : List ℕ) (i : ℕ) : Type 0 where
@@ -19,12 +19,12 @@ pub record Left (c p : List ℕ) (i : ℕ) : Type 0 where
   pub few : lastOf c i - settledOf c i ≤ 2048
   pub are : lastOf c i - settledOf c i ≡ length (queueOf i (wordsOf c p))
 
-pub left-waits : {a : List ℤ} {c p : List ℕ} (h : Holds a c p) (i : ℕ) → i < countOf c → Left c p i
+pub left-waits : {T : Tables} (h : Holds T) (i : ℕ) → i < membersIn T → Left (T .counters) (T .pays) i
 left-waits h i l =
-    let q = h .numbers i (omega (arith, h .few)) in
+    let q = h .numbers .each i (omega (arith, h .counters .few)) in
     record { some = omega arith; few = omega (arith, few-wait h i); are = omega arith }
 
-module _ (t : Tables) (h : Holds (t .accounts) (t .counters) (t .pays)) (k : ℕ) where
+module _ (t : Tables) (h : Holds t) (k : ℕ) where
   -- a member's line,
   pub end-balance : k < countOf (t .counters) → S.Balance (k + 1) (balanceOf (t .accounts) k) (lastOf (t .counters) k - settledOf (t .counters) k) ≡ endAt t k
   end-balance l = rw (lt-ltb k (countOf (t .counters)) l, left-waits h k l .are)

@@ -1,5 +1,4 @@
 pub mod Opening
-pub mod DayLines
 pub mod Settling
 pub mod EndLines
 pub mod Stages

@@ -1,6 +1,5 @@
 -- What the lines of the opening do, case by case.
-use mathlib.Core.Path.{_≡_, refl, _∙_}
-use mathlib.Core.Bool.{cond}
+use mathlib.Core.Path.{_≡_, refl, sym, ap, _∙_}
 use mathlib.Core.List.{List, [], _∷_}
 use Prim.Native.Nat.{ℕ, _+_, _≤_, _<_, _^_}
 use native.Mathlib.Omega.{arith}
@@ -19,7 +18,8 @@ use Rattle.dayfile.proofs.Entry.{the-type}
 use Rattle.rule.proofs.Ints.{held}
 use Rattle.numbers.specs.Numbers.{mostDigits}
 use Rattle.numbers.proofs.Signs.{held-small}
-use Rattle.opening.specs.Open.{opened, isOpened, accountsOpened, countersOpened, paysOpened}
+use Rattle.opening.specs.Open.{openAct}
+use Rattle.answers.specs.Outcome.{outcome, held as heldOn}
 use Rattle.answers.specs.declared.Opened.{Opened}
 use Rattle.answers.specs.declared.Opened.the-variants as opening
 use Rattle.answers.specs.declared.Refusal.{Refusal}
@@ -30,7 +30,8 @@ use Rattle.print.specs.declared.Says.the-variants as S
 use Rattle.night.specs.declared.Stage.the-variants as G
 use Rattle.night.specs.declared.Said.the-variants.{One}
 use Rattle.night.specs.declared.Does.{Does}
-use Rattle.night.specs.Lines.{Tables, did, quiet, refusal, stops, houseDoes, given, memberDoes, openSays, openStage, balancesGiven, linesGiven, openDoes}
+use Rattle.tables.specs.Layout.{Tables}
+use Rattle.night.specs.Lines.{did, quiet, refusal, stops, houseDoes, given, memberDoes, openSays, openStage, balancesGiven, linesGiven, opensTo, openDoes}
 
 -- any line but a house line stops the night,
 pub house-other : (n : ℕ) (t : Tables) (e : Entry) → OneOf (1 ∷ 2 ∷ 3 ∷ 4 ∷ 5 ∷ 6 ∷ 7 ∷ 8 ∷ []) (tagOf the-type e) → houseDoes n t e ≡ stops n Line t
@@ -102,10 +103,6 @@ module _ (n count : ℕ) (t : Tables) (r : Does) (o : Opened) where
   pub open-refused : (k : Refusal) → o ≡ opening.Refused k → r ≡ record { said = One (refusal n k); stage = G.Over } → r ≡ record { said = One (openSays n count o); stage = openStage o }
   open-refused k e q = q ∙ rw e
 
-  pub open-did : (b l a₁ : List ℤ) (c₁ p₁ : List ℕ) → r ≡ record { said = One (openSays n count o); stage = openStage o }
-      → b ≡ balancesGiven count t → l ≡ linesGiven count t → o ≡ opened (t .accounts) (t .counters) (t .pays) count b l
-      → a₁ ≡ cond (isOpened o) (accountsOpened count b l (t .accounts)) (t .accounts)
-      → c₁ ≡ cond (isOpened o) (countersOpened count (t .counters)) (t .counters)
-      → p₁ ≡ cond (isOpened o) (paysOpened (t .pays)) (t .pays)
-      → did r a₁ c₁ p₁ ≡ openDoes n count t
-  open-did b l a₁ c₁ p₁ q eb el eo ea ec ep = rw (q, ea, ec, ep, eo, eb, el)
+  pub open-did : {W : Tables} (b l : List ℤ) → r ≡ record { said = One (openSays n count o); stage = openStage o }
+      → b ≡ balancesGiven count t → l ≡ linesGiven count t → outcome o W ≡ heldOn (openAct count b l) t → did r (W .accounts) (W .counters) (W .pays) ≡ openDoes n count t
+  open-did b l q eb el eo = rw (q, sym eb, sym el) (ap (opensTo n count) eo)

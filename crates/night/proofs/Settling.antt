@@ -8,37 +8,31 @@ use native.Mathlib.Omega.{arith}
 use native.Mathlib.Decide.{decLt}
 use borrow.Author.Tests.{lt-ltb, le-ltb, leb-true, eq-eqb, eqb-true}
 use lib.Dec.{eqb}
-use lib.IntN.{ℤ}
 use lib.ListN.{length, getD, take, set}
 use lib.Seq.{ext-getD, getD-take, length-take-le, getD-set-same, getD-set-other}
-use Rattle.rule.specs.Kernel.{Counts}
-use Rattle.rule.specs.House.{waits}
-use Rattle.rule.proofs.Lists.{length-listing, getD-listing}
-use Rattle.rule.proofs.Kernel.{largest-unique}
-use Rattle.rule.proofs.Cover.{resolution, resolution-largest}
-use Rattle.tables.specs.Layout.{countOf}
+use Rattle.rule.specs.Kernel.{Counts, sum}
+use Rattle.rule.specs.House.{House, waits}
+use Rattle.rule.specs.Verdict.{verdict}
+use Rattle.tables.specs.Layout.{Tables, membersIn, houseIn}
 use Rattle.tables.specs.State.{every}
 use Rattle.tables.specs.Holds.{Holds}
 use Rattle.tables.proofs.Tests.{and-both}
 use Rattle.tables.proofs.Every.{every-at}
-use Rattle.tables.proofs.Houses.{holds-sound, few-wait}
-use Rattle.booking.specs.Booking.{listed, accountsBooked, countersBooked, paysBooked}
-use Rattle.settling.specs.Group.{countAt, isCounts, heldGroup, isGrouped}
-use Rattle.resolving.specs.Resolve.{judgeHeld, Settled}
-use Rattle.answers.specs.declared.Judged.the-variants.{Fine, Bad}
+use Rattle.tables.proofs.Houses.{few-wait}
+use Rattle.booking.specs.Booking.{listed, bookedIn}
+use Rattle.settling.specs.Group.{countAt, isCounts, groupAct}
+use Rattle.settling.proofs.Settles.{group-bad}
+use Rattle.resolving.specs.Resolve.{largestIn, told, resolveAct}
+use Rattle.resolving.proofs.Resolves.{resolve-waiting}
+use Rattle.answers.specs.Outcome.{Outcome, outcome, held}
+use Rattle.answers.specs.Verdicts.{numberOf, named}
 use Rattle.answers.specs.declared.Refusal.{Refusal}
 use Rattle.answers.specs.declared.Resolution.{Resolution}
-use Rattle.settling.proofs.Settles.{group-bad}
-use Rattle.resolving.proofs.Resolves.{resolve-waiting}
-use Rattle.print.specs.declared.Says.{Says}
-use Rattle.night.specs.Lines.{Tables, tables, bookedIf, least, membersIn, houseIn, largestIn, resolveSays, resolutionSays}
-
--- the tables after a call that books z, if it was accepted
-pub booked-after : (t : Tables) (z : Counts) (b d : Bool) (a₁ : List ℤ) (c₁ p₁ : List ℕ) → b ≡ d
-    → a₁ ≡ cond b (accountsBooked (t .accounts) (t .counters) (t .pays) z) (t .accounts)
-    → c₁ ≡ cond b (countersBooked (t .counters) z) (t .counters)
-    → p₁ ≡ cond b (paysBooked (t .counters) (t .pays) z) (t .pays) → tables a₁ c₁ p₁ ≡ bookedIf d t z
-booked-after t z b d a₁ c₁ p₁ e ea ec ep = rw (ea, ec, ep, e)
+use Rattle.answers.specs.declared.Resolved.{Resolved}
+use Rattle.answers.specs.declared.Resolved.the-variants.{Done, Refused}
+use Rattle.answers.proofs.Outcomes.{held-fine, held-bad}
+use Rattle.night.specs.declared.Stage.the-variants as G
+use Rattle.night.specs.Lines.{says, least, resolutionSays, resolveDoes}
 
 -- ---- counts in 16 bits
 
@@ -58,7 +52,7 @@ least-few x w f h = elim (decLt x 65536) [
 least-same : (x w : ℕ) → w ≤ 2048 → x ≤ w → x ≡ least x
 least-same x w f h = sym (ap (λ b. cond b x 65535) (lt-ltb x 65536 (omega arith)))
 
-module _ (t : Tables) (h : Holds (t .accounts) (t .counters) (t .pays)) (k w : List ℕ) (same : length w ≡ length k) (are : (i : ℕ) → i < length k → getD w i 0 ≡ least (getD k i 0)) where
+module _ (t : Tables) (h : Holds t) (k w : List ℕ) (same : length w ≡ length k) (are : (i : ℕ) → i < length k → getD w i 0 ≡ least (getD k i 0)) where
   counts-in : (l : List ℕ) → isCounts (membersIn t) (houseIn t) l ≡ true → (length l ≡ membersIn t) × ((i : ℕ) → i < membersIn t → getD l i 0 ≤ waits (houseIn t) i)
   counts-in l e =
       let b = and-both (eqb (length l) (membersIn t)) (every (countAt (houseIn t) l) (membersIn t)) e in
@@ -71,18 +65,16 @@ module _ (t : Tables) (h : Holds (t .accounts) (t .counters) (t .pays)) (k w : L
   both false false e f = inr (e, f)
 
   -- a group by counts in 16 bits is the group by the numbers read
-  pub group-same : (heldGroup (t .accounts) (t .counters) (t .pays) w ≡ heldGroup (t .accounts) (t .counters) (t .pays) k)
-      × (bookedIf (isGrouped (heldGroup (t .accounts) (t .counters) (t .pays) w)) t (listed w) ≡ bookedIf (isGrouped (heldGroup (t .accounts) (t .counters) (t .pays) k)) t (listed k))
+  pub group-same : held (groupAct w) t ≡ held (groupAct k) t
+  unfolding groupAct
   group-same = elim (both (isCounts (membersIn t) (houseIn t) k) (isCounts (membersIn t) (houseIn t) w) refl refl) [
-    | inl e ↦ (ap (heldGroup (t .accounts) (t .counters) (t .pays)) e, ap (λ (l : List ℕ). bookedIf (isGrouped (heldGroup (t .accounts) (t .counters) (t .pays) l)) t (listed l)) e)
-    | inr e ↦ rw (← group-bad h k (e .0), ← group-bad h w (e .1)) (refl, refl)
+    | inl e ↦ ap (λ (l : List ℕ). held (groupAct l) t) e
+    | inr e ↦ held-bad (groupAct w) t (group-bad h w (e .1)) ∙ sym (held-bad (groupAct k) t (group-bad h k (e .0)))
   ]
 
 -- as the code hands them on: the first m of each
-pub group-narrowed : (t : Tables) → Holds (t .accounts) (t .counters) (t .pays) → (m : ℕ) (counts r : List ℕ) → m ≤ 64 → m ≤ length counts → length r ≡ 64
-    → ((i : ℕ) → i < m → getD r i 0 ≡ least (getD counts i 0))
-    → (heldGroup (t .accounts) (t .counters) (t .pays) (take m r) ≡ heldGroup (t .accounts) (t .counters) (t .pays) (take m counts))
-    × (bookedIf (isGrouped (heldGroup (t .accounts) (t .counters) (t .pays) (take m r))) t (listed (take m r)) ≡ bookedIf (isGrouped (heldGroup (t .accounts) (t .counters) (t .pays) (take m counts))) t (listed (take m counts)))
+pub group-narrowed : (t : Tables) → Holds t → (m : ℕ) (counts r : List ℕ) → m ≤ 64 → m ≤ length counts → length r ≡ 64
+    → ((i : ℕ) → i < m → getD r i 0 ≡ least (getD counts i 0)) → held (groupAct (take m r)) t ≡ held (groupAct (take m counts)) t
 group-narrowed t h m counts r few l e f =
     let u = length-take-le m counts l in
     let v = length-take-le m r (omega arith) in
@@ -90,29 +82,38 @@ group-narrowed t h m counts r few l e f =
 
 -- ---- the largest allowed set
 
-module _ (t : Tables) (h : Holds (t .accounts) (t .counters) (t .pays)) (n : ℕ) where
-  settled-counts : {a₁ : List ℤ} {c₁ p₁ k₁ : List ℕ} {x : Resolution} → Settled (t .accounts) (t .counters) (t .pays) a₁ c₁ p₁ k₁ x → k₁ ≡ largestIn t
-  settled-counts {k₁} s =
-      let z = resolution (membersIn t) (houseIn t) in
-      ext-getD 0 k₁ (largestIn t) (s .members ∙ sym (length-listing (membersIn t) z))
-      (λ i q. let l : i < membersIn t = omega (arith, s .members) in
-      largest-unique (s .largest) (resolution-largest (holds-sound h)) i l ∙ sym (getD-listing (membersIn t) z i 0 l))
+-- the verdict told is the rule's
+number-named : (n : ℕ) (H : House) (z : Counts) → numberOf (named (verdict n H z)) ≡ verdict n H z
+number-named n H z = go (eqb (sum n (waits H)) 0) (eqb (sum n z) 0) (eqb (sum n z) (sum n (waits H)))
+  where
+    go : (x y w : Bool) → numberOf (named (cond x 0 (cond y 3 (cond w 1 2)))) ≡ cond x 0 (cond y 3 (cond w 1 2))
+    go true y w = refl
+    go false true w = refl
+    go false false true = refl
+    go false false false = refl
 
-  settled-says : {a₁ : List ℤ} {c₁ p₁ k₁ : List ℕ} {x : Resolution} → (s : Settled (t .accounts) (t .counters) (t .pays) a₁ c₁ p₁ k₁ x)
-      → resolutionSays n x ≡ resolveSays n (membersIn t) (houseIn t) (listed k₁)
-  settled-says s = rw (s .told .verdict, s .told .payments, s .told .sum, resolve-waiting h s .0, resolve-waiting h s .1)
-
-  -- an accepted resolution says and leaves what its line does
-  pub resolve-did : {a₁ : List ℤ} {c₁ p₁ k₁ : List ℕ} {x : Resolution} (r : Says) → Settled (t .accounts) (t .counters) (t .pays) a₁ c₁ p₁ k₁ x → r ≡ resolutionSays n x
-      → (r ≡ resolveSays n (membersIn t) (houseIn t) (listed (largestIn t))) × (tables a₁ c₁ p₁ ≡ bookedIf true t (listed (largestIn t)))
-  resolve-did {k₁} r s q =
-      let e = settled-counts s in (
-        q ∙ settled-says s ∙ ap (λ (k : List ℕ). resolveSays n (membersIn t) (houseIn t) (listed k)) e,
-        booked-after t (listed k₁) true true _ _ _ refl (s .accounts) (s .counters) (s .pays) ∙ ap (λ (k : List ℕ). bookedIf true t (listed k)) e,
-      )
+-- an accepted resolution says and leaves what its line does
+pub resolve-line : (t : Tables) (n : ℕ) (k : List ℕ) → Holds t → length k ≡ membersIn t → {x : Resolution} {l : List ℕ} {W : Tables} → outcome (Done x, l) W ≡ held (resolveAct k) t
+    → says (resolutionSays n x) G.Day W ≡ resolveDoes n t
+unfolding resolveAct
+resolve-line t n k h e {x} {l} {W} o =
+    let d : outcome (Done x, l) W ≡ resolveAct k .does t = o ∙ held-fine (resolveAct k) t (rw (eq-eqb (length k) (membersIn t) e)) in
+    let a : Done x ≡ Done (told (membersIn t) (houseIn t) (listed (largestIn t))) = ap (λ (u : Outcome (Resolved × List ℕ)). u .answer .0) d in
+    let y : x ≡ told (membersIn t) (houseIn t) (listed (largestIn t)) = done-one a in
+    let w = resolve-waiting h in
+    ap (λ (W : Tables). says (resolutionSays n x) G.Day W) (ap (λ (u : Outcome (Resolved × List ℕ)). u .after) d)
+    ∙ ap (λ (x : Resolution). says (resolutionSays n x) G.Day (bookedIn t (listed (largestIn t)))) y
+    ∙ rw (number-named (membersIn t) (houseIn t) (listed (largestIn t)), w .0, w .1)
+  where
+    done-one : {x y : Resolution} → Done x ≡ Done y → x ≡ y
+    done-one e = cc
 
 -- it is never refused where the lent list is as long as the member count
-pub never-refused : (c k : List ℕ) (r : Refusal) → length k ≡ countOf c → judgeHeld c k ≡ Bad r → ⊥
-never-refused c k r l e =
-    let f : judgeHeld c k ≡ Fine = rw (eq-eqb (length k) (countOf c) l) in
-    let z : _≡_ {A = ℕ} 0 1 = cc in omega arith
+pub never-refused : (t : Tables) (k : List ℕ) (r : Refusal) → length k ≡ membersIn t → {l : List ℕ} {W : Tables} → outcome (Refused r, l) W ≡ held (resolveAct k) t → ⊥
+unfolding resolveAct
+never-refused t k r e o =
+    let d = o ∙ held-fine (resolveAct k) t (rw (eq-eqb (length k) (membersIn t) e)) in
+    refused-done (ap (λ (u : Outcome (Resolved × List ℕ)). u .answer .0) d)
+  where
+    refused-done : {x : Resolution} → Refused r ≡ Done x → ⊥
+    refused-done e = let z : _≡_ {A = ℕ} 0 1 = cc in omega arith

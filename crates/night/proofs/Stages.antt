@@ -11,7 +11,8 @@ use Rattle.dayfile.specs.declared.Entry.{Entry}
 use Rattle.dayfile.specs.declared.Entry.the-variants as E
 use Rattle.night.specs.declared.Stage.{Stage}
 use Rattle.night.specs.declared.Stage.the-variants as G
-use Rattle.night.specs.Lines.{Tables, groupDoes, dayDoes, doesOf}
+use Rattle.tables.specs.Layout.{Tables}
+use Rattle.night.specs.Lines.{groupDoes, dayDoes, doesOf}
 use Rattle.night.specs.Stands.{Stands, SmallMember, Read}
 
 pub stands-at : (t : Tables) {g : Stage} (k : Stage) → g ≡ k → Stands g t → Stands k t

@@ -1,6 +1,6 @@
 -- What one line of the day file does (document 01, "The day file and the sheet"): what it says on the sheet, the stage after it, and the
 -- tables after it.
-use mathlib.Core.Bool.{Bool, true, cond, _&&_}
+use mathlib.Core.Bool.{cond, _&&_}
 use mathlib.Core.List.{List, [], _∷_, _++_}
 use Prim.Native.Nat.{ℕ, _+_}
 use lib.Dec.{eqb, leb, ltb}
@@ -12,19 +12,19 @@ use Rattle.rule.specs.Kernel.{Counts, sum}
 use Rattle.rule.specs.House.{House, sent}
 use Rattle.rule.specs.Verdict.{verdict}
 use Rattle.rule.specs.Table.{queueOf}
-use Rattle.rule.proofs.Cover.{resolution}
 use Rattle.sets.specs.Sets.{sizeOf, lowestOf, lowestIn}
-use Rattle.booking.specs.Booking.{listed, accountsBooked, countersBooked, paysBooked}
+use Rattle.booking.specs.Booking.{listed, bookedIn}
 use Rattle.tables.specs.Sizes.{members}
-use Rattle.tables.specs.Layout.{countOf, balanceOf, moneyOf, wordsOf, houseOf}
+use Rattle.tables.specs.Layout.{Tables, tables, membersIn, houseIn, countOf, balanceOf, moneyOf, wordsOf}
 use Rattle.answers.specs.Codes.{codeOf}
-use Rattle.opening.specs.Open.{opened, isOpened, accountsOpened, countersOpened, paysOpened}
-use Rattle.entry.specs.Deposit.{heldDeposit, isDeposited, accountsDeposited}
-use Rattle.entry.specs.Submit.{heldSubmit, isSubmitted, countersSubmitted, paysSubmitted}
-use Rattle.settling.specs.Release.{heldRelease, isReleased, onlyHead}
-use Rattle.settling.specs.Group.{heldGroup, isGrouped}
+use Rattle.answers.specs.Outcome.{Outcome, held}
+use Rattle.opening.specs.Open.{openAct}
+use Rattle.entry.specs.Deposit.{depositAct}
+use Rattle.entry.specs.Submit.{submitAct}
+use Rattle.settling.specs.Release.{releaseAct}
+use Rattle.settling.specs.Group.{groupAct}
 use Rattle.answers.specs.Verdicts.{numberOf}
-use Rattle.resolving.specs.Resolve.{stillWaits}
+use Rattle.resolving.specs.Resolve.{largestIn, stillWaits}
 use Rattle.answers.specs.declared.Resolution.{Resolution}
 use Rattle.answers.specs.declared.Released.{Released}
 use Rattle.answers.specs.declared.Released.the-variants as releasing
@@ -48,15 +48,6 @@ use Rattle.night.specs.declared.Said.{Said}
 use Rattle.night.specs.declared.Said.the-variants.{Nothing, One}
 use Rattle.night.specs.declared.Does.{Does}
 
--- the three tables
-pub record Tables : Type 0 where
-  pub accounts : List ℤ
-  pub counters : List ℕ
-  pub pays : List ℕ
-
-abbrev pub tables : List ℤ → List ℕ → List ℕ → Tables
-tables a c p = record { accounts = a; counters = c; pays = p }
-
 -- what a line does
 pub record Did : Type 0 where
   pub said : Said
@@ -74,6 +65,10 @@ quiet g t = record { said = Nothing; stage = g; after = t }
 -- one line is said
 abbrev pub says : Says → Stage → Tables → Did
 says s g t = record { said = One s; stage = g; after = t }
+
+-- a call's line: what is said of its answer, and the tables after it
+abbrev pub lineOf : {A : Type 0} → (A → Says) → Outcome A → Did
+lineOf say u = says (say (u .answer)) G.Day (u .after)
 
 -- line n is refused
 abbrev pub refusal : ℕ → Refusal → Says
@@ -110,16 +105,6 @@ abbrev pub openStage : Opened → Stage
 openStage (opening.Done sum) = G.Day
 openStage (opening.Refused r) = G.Over
 
-abbrev pub openTables : ℕ → List ℤ → List ℤ → Tables → Opened → Tables
-openTables count b l t o =
-    tables
-    (cond (isOpened o) (accountsOpened count b l (t .accounts)) (t .accounts))
-    (cond (isOpened o) (countersOpened count (t .counters)) (t .counters))
-    (cond (isOpened o) (paysOpened (t .pays)) (t .pays))
-
-abbrev pub openBy : ℕ → ℕ → List ℤ → List ℤ → Tables → Opened → Did
-openBy n count b l t o = says (openSays n count o) (openStage o) (openTables count b l t o)
-
 -- the balances and the lines that were given
 abbrev pub balancesGiven : ℕ → Tables → List ℤ
 balancesGiven count t = take count (t .accounts)
@@ -128,10 +113,11 @@ abbrev pub linesGiven : ℕ → Tables → List ℤ
 linesGiven count t = take count (drop 64 (t .accounts))
 
 -- the house is opened with what was given
+abbrev pub opensTo : ℕ → ℕ → Outcome Opened → Did
+opensTo n count u = says (openSays n count (u .answer)) (openStage (u .answer)) (u .after)
+
 abbrev pub openDoes : ℕ → ℕ → Tables → Did
-openDoes n count t =
-    openBy n count (balancesGiven count t) (linesGiven count t) t
-    (opened (t .accounts) (t .counters) (t .pays) count (balancesGiven count t) (linesGiven count t))
+openDoes n count t = opensTo n count (held (openAct count (balancesGiven count t) (linesGiven count t)) t)
 
 -- the member line behind k others, of count: the last one opens the house
 abbrev pub givenDoes : ℕ → ℕ → ℕ → Tables → Did
@@ -155,75 +141,37 @@ abbrev pub paySays : ℕ → ℕ → ℕ → Submitted → Says
 paySays n m k submitting.Done = S.Queued n m k
 paySays n m k (submitting.Refused r) = refusal n r
 
-abbrev pub payBy : ℕ → Tables → ℕ → ℕ → ℕ → ℕ → Submitted → Did
-payBy n t m k q x s =
-    says (paySays n m k s) G.Day
-    (tables (t .accounts)
-    (cond (isSubmitted s) (countersSubmitted (t .counters) m k) (t .counters))
-    (cond (isSubmitted s) (paysSubmitted (t .counters) (t .pays) m q x) (t .pays)))
-
 -- payer m gives number k to a payment of x to q
 abbrev pub payDoes : ℕ → Tables → ℕ → ℕ → ℕ → ℕ → Did
-payDoes n t m k q x = payBy n t m k q x (heldSubmit (t .counters) m k q x)
+payDoes n t m k q x = lineOf (paySays n m k) (held (submitAct m k q x) t)
 
 abbrev pub depositSays : ℕ → ℕ → Deposited → Says
 depositSays n m (depositing.Done b) = S.Deposited n m b
 depositSays n m (depositing.Refused r) = refusal n r
 
-abbrev pub depositBy : ℕ → Tables → ℕ → ℕ → Deposited → Did
-depositBy n t m x d =
-    says (depositSays n m d) G.Day (tables (cond (isDeposited d) (accountsDeposited (t .accounts) m x) (t .accounts)) (t .counters) (t .pays))
-
 -- x is given to member m
 abbrev pub depositDoes : ℕ → Tables → ℕ → ℕ → Did
-depositDoes n t m x = depositBy n t m x (heldDeposit (t .accounts) (t .counters) m x)
-
--- ---- settled at once
-
--- the tables once z is booked, if it is
-abbrev pub bookedIf : Bool → Tables → Counts → Tables
-bookedIf b t z =
-    tables
-    (cond b (accountsBooked (t .accounts) (t .counters) (t .pays) z) (t .accounts))
-    (cond b (countersBooked (t .counters) z) (t .counters))
-    (cond b (paysBooked (t .counters) (t .pays) z) (t .pays))
+depositDoes n t m x = lineOf (depositSays n m) (held (depositAct m x) t)
 
 abbrev pub releaseSays : ℕ → Released → Says
 releaseSays n (releasing.Done m k x) = S.Released n m k x
 releaseSays n (releasing.Refused r) = refusal n r
 
-abbrev pub releaseBy : ℕ → Tables → ℕ → Released → Did
-releaseBy n t m r = says (releaseSays n r) G.Day (bookedIf (isReleased r) t (onlyHead m))
-
 -- the head of member m
 abbrev pub releaseDoes : ℕ → Tables → ℕ → Did
-releaseDoes n t m = releaseBy n t m (heldRelease (t .accounts) (t .counters) (t .pays) m)
+releaseDoes n t m = lineOf (releaseSays n) (held (releaseAct m) t)
 
 abbrev pub groupSays : ℕ → Grouped → Says
 groupSays n (grouping.Done k x) = S.Group n k x
 groupSays n (grouping.Refused r) = refusal n r
 
-abbrev pub groupBy : ℕ → Tables → List ℕ → Grouped → Did
-groupBy n t k r = says (groupSays n r) G.Day (bookedIf (isGrouped r) t (listed k))
-
 -- that many from each head, as the numbers read say
 abbrev pub groupDoes : ℕ → Tables → List ℕ → Did
-groupDoes n t k = groupBy n t k (heldGroup (t .accounts) (t .counters) (t .pays) k)
+groupDoes n t k = lineOf (groupSays n) (held (groupAct k) t)
 
 -- a count in 16 bits: the smaller of it and 65,535, which is more than ever waits
 abbrev pub least : ℕ → ℕ
 least x = cond (ltb x 65536) x 65535
-
--- the house that the tables hold
-abbrev pub houseIn : Tables → House
-houseIn t = houseOf (t .accounts) (t .counters) (t .pays)
-
-abbrev pub membersIn : Tables → ℕ
-membersIn t = countOf (t .counters)
-
--- the counts of the largest allowed set
-abbrev pub largestIn : Tables → List ℕ
-largestIn t = listing (membersIn t) (resolution (membersIn t) (houseIn t))
 
 -- the verdict, how many payments, their sum, how many members still wait, and the lowest of them
 abbrev pub resolveSays : ℕ → ℕ → House → Counts → Says
@@ -235,7 +183,7 @@ resolutionSays n x = S.Resolve n (numberOf (x .verdict)) (x .payments) (x .sum) 
 
 -- the largest allowed set is booked
 abbrev pub resolveDoes : ℕ → Tables → Did
-resolveDoes n t = says (resolveSays n (membersIn t) (houseIn t) (listed (largestIn t))) G.Day (bookedIf true t (listed (largestIn t)))
+resolveDoes n t = says (resolveSays n (membersIn t) (houseIn t) (listed (largestIn t))) G.Day (bookedIn t (listed (largestIn t)))
 
 -- a stray or a bad line
 abbrev pub strays : ℕ → Tables → Did

@@ -4,7 +4,7 @@ use mathlib.Core.List.{List}
 use Prim.Native.Nat.{ℕ, _≤_, _<_, _^_}
 use lib.IntN.{natAbs}
 use lib.ListN.{length, take}
-use Rattle.tables.specs.Layout.{countOf}
+use Rattle.tables.specs.Layout.{Tables, countOf}
 use Rattle.tables.specs.Holds.{Holds}
 use Rattle.numbers.specs.Numbers.{mostDigits}
 use Rattle.dayfile.specs.Entries.{smallEntry}
@@ -15,7 +15,6 @@ use Rattle.night.specs.declared.Stage.{Stage}
 use Rattle.night.specs.declared.Stage.the-variants as G
 use Rattle.night.specs.declared.Said.{Said}
 use Rattle.night.specs.declared.Said.the-variants.{Nothing, One}
-use Rattle.night.specs.Lines.{Tables}
 
 -- the tables are long enough
 pub record Sized (t : Tables) : Type 0 where
@@ -32,13 +31,13 @@ pub record Giving (count k : ℕ) (t : Tables) : Type 0 where
 -- a state, of which k members were told
 pub record Telling (k : ℕ) (t : Tables) : Type 0 where
   pub told : k ≤ countOf (t .counters)
-  pub holds : Holds (t .accounts) (t .counters) (t .pays)
+  pub holds : Holds t
 
 -- from the day on the tables hold a state
 abbrev pub Stands : Stage → Tables → Type 0
 Stands G.House t = Sized t
 Stands (G.Members count k) t = Giving count k t
-Stands G.Day t = Holds (t .accounts) (t .counters) (t .pays)
+Stands G.Day t = Holds t
 Stands (G.Ending k) t = Telling k t
 Stands G.Over t = Unit
 

@@ -15,19 +15,14 @@ use dayfile::Entry;
 use print::Says;
 use tables::steps::wide;
 ghost use mathlib.Core.Path.{_≡_};
-ghost use mathlib.Core.Bool.{true, cond};
 ghost use Prim.Native.Nat.{ℕ, _≤_, _<_};
 ghost use lib.ListN.{length, getD, take};
-ghost use Rattle.booking.specs.Booking.{listed};
-ghost use Rattle.tables.specs.Holds.{Holds, Accounts, Queues};
-ghost use Rattle.entry.specs.Deposit.{heldDeposit, isDeposited, accountsDeposited};
-ghost use Rattle.entry.specs.Submit.{heldSubmit, isSubmitted, countersSubmitted, paysSubmitted};
-ghost use Rattle.settling.specs.Release.{heldRelease, isReleased, onlyHead};
-ghost use Rattle.settling.specs.Group.{heldGroup, isGrouped};
+ghost use Rattle.tables.specs.Layout.{tables};
+ghost use Rattle.tables.specs.Holds.{Holds};
 ghost use Rattle.answers.specs.declared.Refusal.the-variants.{Line};
 ghost use Rattle.night.specs.declared.Stage.the-variants.{Day};
 ghost use Rattle.night.specs.declared.Said.the-variants.{One};
-ghost use Rattle.night.specs.Lines.{tables, did, refusal, paySays, depositSays, bookedIf, releaseSays, groupSays, least, membersIn, houseIn, largestIn, resolveSays, resolutionSays, dayDoes};
+ghost use Rattle.night.specs.Lines.{says as line, did, refusal, payDoes, depositDoes, releaseDoes, groupDoes, resolveDoes, least, resolutionSays, dayDoes};
 ghost use Rattle.night.specs.Stands.{Read};
 
 // A stray or a bad line: the night goes on.
@@ -46,14 +41,14 @@ pub fn day_line(
     n: u64,
     e: Entry,
 ) -> Does
-    requires { ⌜ Holds (now accounts) (now counters) (now pays) × Read e (now counts) ⌝ }
+    requires { ⌜ Holds (tables (now accounts) (now counters) (now pays)) × Read e (now counts) ⌝ }
     ensures { λ r. ⌜ did r (now (accounts .exit)) (now (counters .exit)) (now (pays .exit)) ≡ dayDoes n (tables (now (accounts .entry)) (now (counters .entry)) (now (pays .entry))) e (now (counts .entry)) ⌝ }
 {
     match e {
         Entry::House(_) => stray(n),
         Entry::Member(_, _, _) => stray(n),
-        Entry::Pay(m, k, q, x) => says(pay(counters, pays, n, m, k, q, x), Stage::Day),
-        Entry::Deposit(m, x) => says(deposit(accounts, counters, n, m, x), Stage::Day),
+        Entry::Pay(m, k, q, x) => says(pay(accounts, counters, pays, n, m, k, q, x), Stage::Day),
+        Entry::Deposit(m, x) => says(deposit(accounts, counters, pays, n, m, x), Stage::Day),
         Entry::Release(m) => says(release(accounts, counters, pays, n, m), Stage::Day),
         Entry::Group(m) => says(group(accounts, counters, pays, counts, n, m), Stage::Day),
         Entry::Resolve => says(resolve(accounts, counters, pays, n), Stage::Day),
@@ -64,6 +59,7 @@ pub fn day_line(
 
 // A payment, and what is said of it.
 fn pay(
+    accounts: &[i64],
     counters: &mut [u32],
     pays: &mut [u64],
     n: u64,
@@ -72,12 +68,10 @@ fn pay(
     payee: u64,
     amount: u64,
 ) -> Says
-    requires { ⌜ Queues (now counters) (now pays) ⌝ }
-    ensures { λ r. ⌜ r ≡ paySays n payer number (heldSubmit (now (counters .entry)) payer number payee amount) ⌝ }
-    ensures { λ r. ⌜ now (counters .exit) ≡ cond (isSubmitted (heldSubmit (now (counters .entry)) payer number payee amount)) (countersSubmitted (now (counters .entry)) payer number) (now (counters .entry)) ⌝ }
-    ensures { λ r. ⌜ now (pays .exit) ≡ cond (isSubmitted (heldSubmit (now (counters .entry)) payer number payee amount)) (paysSubmitted (now (counters .entry)) (now (pays .entry)) payer payee amount) (now (pays .entry)) ⌝ }
+    requires { ⌜ Holds (tables (now accounts) (now counters) (now pays)) ⌝ }
+    ensures { λ r. ⌜ line r Day (tables (now (accounts .exit)) (now (counters .exit)) (now (pays .exit))) ≡ payDoes n (tables (now (accounts .entry)) (now (counters .entry)) (now (pays .entry))) payer number payee amount ⌝ }
 {
-    let r = entry::submit::submit(counters, pays, payer, number, payee, amount);
+    let r = entry::submit::submit(accounts, counters, pays, payer, number, payee, amount);
     match r {
         Submitted::Done => Says::Queued(n, payer, number),
         Submitted::Refused(r) => refused(n, r),
@@ -85,12 +79,18 @@ fn pay(
 }
 
 // A deposit, and what is said of it.
-fn deposit(accounts: &mut [i64], counters: &[u32], n: u64, member: u64, amount: u64) -> Says
-    requires { ⌜ Accounts (now accounts) (now counters) ⌝ }
-    ensures { λ r. ⌜ r ≡ depositSays n member (heldDeposit (now (accounts .entry)) (now (counters .entry)) member amount) ⌝ }
-    ensures { λ r. ⌜ now (accounts .exit) ≡ cond (isDeposited (heldDeposit (now (accounts .entry)) (now (counters .entry)) member amount)) (accountsDeposited (now (accounts .entry)) member amount) (now (accounts .entry)) ⌝ }
+fn deposit(
+    accounts: &mut [i64],
+    counters: &[u32],
+    pays: &[u64],
+    n: u64,
+    member: u64,
+    amount: u64,
+) -> Says
+    requires { ⌜ Holds (tables (now accounts) (now counters) (now pays)) ⌝ }
+    ensures { λ r. ⌜ line r Day (tables (now (accounts .exit)) (now (counters .exit)) (now (pays .exit))) ≡ depositDoes n (tables (now (accounts .entry)) (now (counters .entry)) (now (pays .entry))) member amount ⌝ }
 {
-    let r = entry::deposit::deposit(accounts, counters, member, amount);
+    let r = entry::deposit::deposit(accounts, counters, pays, member, amount);
     match r {
         Deposited::Done(b) => Says::Deposited(n, member, b),
         Deposited::Refused(r) => refused(n, r),
@@ -105,9 +105,8 @@ fn release(
     n: u64,
     member: u64,
 ) -> Says
-    requires { ⌜ Holds (now accounts) (now counters) (now pays) ⌝ }
-    ensures { λ r. ⌜ r ≡ releaseSays n (heldRelease (now (accounts .entry)) (now (counters .entry)) (now (pays .entry)) member) ⌝ }
-    ensures { λ r. ⌜ tables (now (accounts .exit)) (now (counters .exit)) (now (pays .exit)) ≡ bookedIf (isReleased (heldRelease (now (accounts .entry)) (now (counters .entry)) (now (pays .entry)) member)) (tables (now (accounts .entry)) (now (counters .entry)) (now (pays .entry))) (onlyHead member) ⌝ }
+    requires { ⌜ Holds (tables (now accounts) (now counters) (now pays)) ⌝ }
+    ensures { λ r. ⌜ line r Day (tables (now (accounts .exit)) (now (counters .exit)) (now (pays .exit))) ≡ releaseDoes n (tables (now (accounts .entry)) (now (counters .entry)) (now (pays .entry))) member ⌝ }
 {
     let r = settling::release(accounts, counters, pays, member);
     match r {
@@ -125,9 +124,8 @@ fn group(
     n: u64,
     m: usize,
 ) -> Says
-    requires { ⌜ Holds (now accounts) (now counters) (now pays) × (m ≤ 64) × (m ≤ length (now counts)) ⌝ }
-    ensures { λ r. ⌜ r ≡ groupSays n (heldGroup (now (accounts .entry)) (now (counters .entry)) (now (pays .entry)) (take m (now (counts .entry)))) ⌝ }
-    ensures { λ r. ⌜ tables (now (accounts .exit)) (now (counters .exit)) (now (pays .exit)) ≡ bookedIf (isGrouped (heldGroup (now (accounts .entry)) (now (counters .entry)) (now (pays .entry)) (take m (now (counts .entry))))) (tables (now (accounts .entry)) (now (counters .entry)) (now (pays .entry))) (listed (take m (now (counts .entry)))) ⌝ }
+    requires { ⌜ Holds (tables (now accounts) (now counters) (now pays)) × (m ≤ 64) × (m ≤ length (now counts)) ⌝ }
+    ensures { λ r. ⌜ line r Day (tables (now (accounts .exit)) (now (counters .exit)) (now (pays .exit))) ≡ groupDoes n (tables (now (accounts .entry)) (now (counters .entry)) (now (pays .entry))) (take m (now (counts .entry))) ⌝ }
 {
     let k = narrowed(counts, m);
     let r = settling::group(accounts, counters, pays, &k[..m]);
@@ -160,9 +158,8 @@ fn narrow(x: u64) -> u16
 
 // A resolution, and what is said of it.
 fn resolve(accounts: &mut [i64], counters: &mut [u32], pays: &mut [u64], n: u64) -> Says
-    requires { ⌜ Holds (now accounts) (now counters) (now pays) ⌝ }
-    ensures { λ r. ⌜ r ≡ resolveSays n (membersIn (tables (now (accounts .entry)) (now (counters .entry)) (now (pays .entry)))) (houseIn (tables (now (accounts .entry)) (now (counters .entry)) (now (pays .entry)))) (listed (largestIn (tables (now (accounts .entry)) (now (counters .entry)) (now (pays .entry))))) ⌝ }
-    ensures { λ r. ⌜ tables (now (accounts .exit)) (now (counters .exit)) (now (pays .exit)) ≡ bookedIf true (tables (now (accounts .entry)) (now (counters .entry)) (now (pays .entry))) (listed (largestIn (tables (now (accounts .entry)) (now (counters .entry)) (now (pays .entry))))) ⌝ }
+    requires { ⌜ Holds (tables (now accounts) (now counters) (now pays)) ⌝ }
+    ensures { λ r. ⌜ line r Day (tables (now (accounts .exit)) (now (counters .exit)) (now (pays .exit))) ≡ resolveDoes n (tables (now (accounts .entry)) (now (counters .entry)) (now (pays .entry))) ⌝ }
 {
     let mut k = [0u16; 64];
     let m = wide(counters[0]);

@@ -6,7 +6,8 @@ use tables::steps::wide;
 ghost use mathlib.Core.Path.{_≡_};
 ghost use Prim.Native.Nat.{_<_, _^_};
 ghost use lib.ListN.{length};
-ghost use Rattle.night.specs.Lines.{tables, endAt, endNext};
+ghost use Rattle.tables.specs.Layout.{tables};
+ghost use Rattle.night.specs.Lines.{endAt, endNext};
 ghost use Rattle.night.specs.Stands.{Telling};
 
 // The line that comes k-th at the end.

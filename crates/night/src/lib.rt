@@ -10,7 +10,8 @@ pub use ending::end_next;
 use print::Says;
 ghost use mathlib.Core.Path.{_≡_};
 ghost use Rattle.night.specs.declared.Said.the-variants.{Nothing, One};
-ghost use Rattle.night.specs.Lines.{tables, did, refusal, doesOf};
+ghost use Rattle.tables.specs.Layout.{tables};
+ghost use Rattle.night.specs.Lines.{did, refusal, doesOf};
 ghost use Rattle.night.specs.Stands.{Stands, Read};
 
 // Where the night stands: before the house line; in the opening of a house of some members, of whom some were given; in the day; at the

@@ -16,7 +16,8 @@ ghost use lib.IntN.{pos};
 ghost use lib.ListN.{length, take, drop, set};
 ghost use Rattle.night.specs.declared.Stage.the-variants.{Over};
 ghost use Rattle.night.specs.declared.Said.the-variants.{One};
-ghost use Rattle.night.specs.Lines.{Tables, tables, did, refusal, houseDoes, openDoes, memberDoes};
+ghost use Rattle.tables.specs.Layout.{Tables, tables};
+ghost use Rattle.night.specs.Lines.{did, refusal, houseDoes, openDoes, memberDoes};
 ghost use Rattle.night.specs.Stands.{Giving, SmallMember};
 
 // A refusal in the opening: the night stops.

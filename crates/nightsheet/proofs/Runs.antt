@@ -5,7 +5,7 @@ use Prim.Native.Nat.{ℕ}
 use native.Mathlib.Omega.{arith}
 use lib.IntN.{ℤ}
 use lib.ListN.{length}
-use Rattle.night.specs.Lines.{Tables, tables}
+use Rattle.tables.specs.Layout.{Tables, tables}
 use Rattle.sheet.specs.declared.State.{State}
 use Rattle.sheet.specs.Feeding.{dawn, Fit}
 use Rattle.nightsheet.specs.Sizes.{outBytes}

@@ -4,7 +4,7 @@ ghost use mathlib.Core.Path.{_≡_};
 ghost use Prim.Native.Nat.{_≤_};
 ghost use lib.ListN.{length};
 ghost use Rattle.cut.specs.Lines.{mostBytes};
-ghost use Rattle.night.specs.Lines.{tables};
+ghost use Rattle.tables.specs.Layout.{tables};
 ghost use Rattle.sheet.specs.Feeding.{Fit};
 ghost use Rattle.nightsheet.specs.Sizes.{outBytes, Lent};
 

@@ -1,7 +1,7 @@
 -- What an accepted opening's numbers satisfy follows from a judgement that found nothing.
-use mathlib.Core.Path.{_≡_, refl}
-use mathlib.Core.Bool.{true, not}
-use mathlib.Core.List.{List, [], _∷_}
+use mathlib.Core.Path.{_≡_}
+use mathlib.Core.Bool.{true}
+use mathlib.Core.List.{List}
 use Prim.Native.Nat.{ℕ, _≤_, _<_}
 use native.Mathlib.Omega.{arith}
 use lib.Dec.{eqb, leb}
@@ -11,16 +11,14 @@ use lib.ListN.{length}
 use borrow.Author.Tests.{leb-true, eqb-true, not-false}
 use Rattle.rule.specs.House.{money}
 use Rattle.tables.specs.Sizes.{members, places, table, most}
+use Rattle.tables.specs.Layout.{Tables}
 use Rattle.tables.specs.State.{every, holderOk, sized}
 use Rattle.tables.proofs.Tests.{and-both, le-true}
 use Rattle.tables.proofs.Every.{every-at}
-use Rattle.answers.specs.Codes.{test}
-use Rattle.answers.specs.declared.Refusal.the-variants.{State, Opening}
-use Rattle.answers.specs.declared.Judged.{Judged}
-use Rattle.answers.specs.declared.Judged.the-variants.{Fine, Bad}
-use Rattle.answers.specs.declared.Opened.the-variants as opening
+use Rattle.answers.specs.Codes.{first}
+use Rattle.answers.specs.declared.Judged.the-variants.{Fine}
 use Rattle.answers.proofs.Judging.{first-fine}
-use Rattle.opening.specs.Open.{entry, opensAt, isOpening, judgeOpen, answerOpen, opened}
+use Rattle.opening.specs.Open.{entry, opensAt, isOpening, openTests, openAct}
 
 -- n members may open with the balances b and the lines l
 pub record OpensWith (n : ℕ) (b l : List ℤ) : Type 0 where
@@ -32,10 +30,10 @@ pub record OpensWith (n : ℕ) (b l : List ℤ) : Type 0 where
   pub sum : money n (entry b) ≤ℤ pos most
 
 -- and on tables that are long enough
-pub record Opens (a : List ℤ) (c p : List ℕ) (n : ℕ) (b l : List ℤ) : Type 0 where
-  pub long : table ≤ length a
-  pub broad : table ≤ length c
-  pub deep : places ≤ length p
+pub record Opens (T : Tables) (n : ℕ) (b l : List ℤ) : Type 0 where
+  pub long : table ≤ length (T .accounts)
+  pub broad : table ≤ length (T .counters)
+  pub deep : places ≤ length (T .pays)
   pub opening : OpensWith n b l
 
 -- the test of an opening says what it opens with,
@@ -55,23 +53,16 @@ opening-fine n b l e =
       sum = le-true (money n (entry b)) (pos most) (e5 .1);
     }
 
--- a judgement that found nothing says so of the tables too,
-pub open-fine : (a : List ℤ) (c p : List ℕ) (n : ℕ) (b l : List ℤ) → judgeOpen a c p n b l ≡ Fine → Opens a c p n b l
-open-fine a c p n b l e =
-    let f = first-fine (test (not (sized a c p)) State ∷ test (not (isOpening n b l)) Opening ∷ []) e in
-    let s1 = and-both (leb table (length a)) _ (not-false (sized a c p) (f .0)) in
-    let s2 = and-both (leb table (length c)) (leb places (length p)) (s1 .1) in
+-- tests that find nothing say so of the tables too
+pub open-fine : {T : Tables} {n : ℕ} {b l : List ℤ} → first (openAct n b l .tests T) ≡ Fine → Opens T n b l
+unfolding openAct
+open-fine {T} {n} {b} {l} e =
+    let f = first-fine (openTests T n b l) e in
+    let s1 = and-both (leb table (length (T .accounts))) _ (not-false (sized (T .accounts) (T .counters) (T .pays)) (f .0)) in
+    let s2 = and-both (leb table (length (T .counters))) (leb places (length (T .pays))) (s1 .1) in
     record {
-      long = leb-true table (length a) (s1 .0);
-      broad = leb-true table (length c) (s2 .0);
-      deep = leb-true places (length p) (s2 .1);
+      long = leb-true table (length (T .accounts)) (s1 .0);
+      broad = leb-true table (length (T .counters)) (s2 .0);
+      deep = leb-true places (length (T .pays)) (s2 .1);
       opening = opening-fine n b l (not-false (isOpening n b l) (f .1 .0));
     }
-
--- and so does an accepted opening, whose answer is the sum of balances
-pub open-done : (a : List ℤ) (c p : List ℕ) (n : ℕ) (b l : List ℤ) {s : ℤ} → opened a c p n b l ≡ opening.Done s → Opens a c p n b l × (s ≡ money n (entry b))
-open-done a c p n b l {s} e = let g = go (judgeOpen a c p n b l) e in (open-fine a c p n b l (g .0), g .1)
-  where
-    go : (j : Judged) → answerOpen n b j ≡ opening.Done s → (j ≡ Fine) × (s ≡ money n (entry b))
-    go Fine e = (refl, cc)
-    go (Bad r) e = let z : _≡_ {A = ℕ} 0 1 = cc in absurd (omega arith)

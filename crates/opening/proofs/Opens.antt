@@ -12,12 +12,11 @@ use Rattle.rule.specs.Table.{queueOf}
 use Rattle.rule.proofs.Ints.{plus-zero}
 use Rattle.rule.proofs.Lists.{fill-at, fill-length}
 use Rattle.rule.proofs.Money.{money-same}
-use Rattle.tables.specs.Layout.{countOf, waitingOf, lastOf, balanceOf, lineOf, moneyOf, wordsOf}
+use Rattle.tables.specs.Layout.{Tables, membersIn, waitingIn, wordsIn, lastOf, balanceOf, lineOf, moneyOf}
 use Rattle.tables.specs.Holds.{Holds}
 use Rattle.tables.proofs.States.{holder-is}
-use Rattle.answers.specs.declared.Opened.the-variants.{Done}
-use Rattle.opening.specs.Open.{entry, opened, accountOpened, counterOpened, accountsOpened, countersOpened, paysOpened}
-use Rattle.opening.proofs.Judging.{Opens, open-done}
+use Rattle.opening.specs.Open.{entry, accountOpened, counterOpened, openedIn}
+use Rattle.opening.proofs.Judging.{Opens}
 
 -- balances of 0 add nothing
 money-trim : (b : ℕ → ℤ) (n k : ℕ) → k ≤ n → ((i : ℕ) → k ≤ i → i < n → b i ≡ pos 0) → money n b ≡ money k b
@@ -45,72 +44,88 @@ module _ (n : ℕ) (b l : List ℤ) (few : n ≤ 64) where
   at-high : (k : ℕ) → 64 + n ≤ k → accountOpened n b l k ≡ pos 0
   at-high k q = rw (le-ltb k n (omega arith), le-leb 64 k (omega arith), le-ltb (k - 64) n (omega arith))
 
-module _ {a : List ℤ} {c p : List ℕ} {n : ℕ} {b l : List ℤ} (o : Opens a c p n b l) where
+module _ {T : Tables} {n : ℕ} {b l : List ℤ} (o : Opens T n b l) where
   few : n ≤ 64
   few = o .opening .few
 
-  account : (k : ℕ) → k < 512 → getD (accountsOpened n b l a) k (pos 0) ≡ accountOpened n b l k
-  account k q = fill-at (accountOpened n b l) a 512 k (pos 0) q
+  account : (k : ℕ) → k < 512 → getD (openedIn T n b l .accounts) k (pos 0) ≡ accountOpened n b l k
+  unfolding openedIn
+  account k q = fill-at (accountOpened n b l) (T .accounts) 512 k (pos 0) q
 
-  counter : (k : ℕ) → 1 ≤ k → k < 512 → getD (countersOpened n c) k 0 ≡ 0
-  counter k l q = fill-at (counterOpened n) c 512 k 0 q ∙ rw (ne-eqb k 0 (λ e. omega arith))
+  counter : (k : ℕ) → 1 ≤ k → k < 512 → getD (openedIn T n b l .counters) k 0 ≡ 0
+  unfolding openedIn
+  counter k l q = fill-at (counterOpened n) (T .counters) 512 k 0 q ∙ rw (ne-eqb k 0 (λ e. omega arith))
 
   -- the count is n,
-  pub opens-count : countOf (countersOpened n c) ≡ n
-  opens-count = fill-at (counterOpened n) c 512 0 0 (omega arith)
+  pub opens-count : membersIn (openedIn T n b l) ≡ n
+  unfolding openedIn
+  opens-count = fill-at (counterOpened n) (T .counters) 512 0 0 (omega arith)
 
   -- no payment waits,
-  pub opens-waiting : waitingOf (countersOpened n c) ≡ 0
+  pub opens-waiting : waitingIn (openedIn T n b l) ≡ 0
+  unfolding openedIn
   opens-waiting = counter 1 (omega arith) (omega arith)
 
   -- so that each queue is empty,
-  pub opens-queue : (i : ℕ) → queueOf i (wordsOf (countersOpened n c) (paysOpened p)) ≡ []
+  pub opens-queue : (i : ℕ) → queueOf i (wordsIn (openedIn T n b l)) ≡ []
+  unfolding openedIn
   opens-queue i = rw opens-waiting
 
   -- each last number is 0,
-  pub opens-last : (i : ℕ) → i < 64 → lastOf (countersOpened n c) i ≡ 0
+  pub opens-last : (i : ℕ) → i < 64 → lastOf (openedIn T n b l .counters) i ≡ 0
+  unfolding openedIn
   opens-last i q = counter (64 + i) (omega arith) (omega arith)
 
   -- each member has the balance given,
-  pub opens-balance : (i : ℕ) → i < n → balanceOf (accountsOpened n b l a) i ≡ entry b i
+  pub opens-balance : (i : ℕ) → i < n → balanceOf (openedIn T n b l .accounts) i ≡ entry b i
+  unfolding openedIn
   opens-balance i q = account i (omega (arith, few)) ∙ at-balance n b l few i q
 
   -- and the line given,
-  pub opens-line : (i : ℕ) → i < n → lineOf (accountsOpened n b l a) i ≡ entry l i
+  pub opens-line : (i : ℕ) → i < n → lineOf (openedIn T n b l .accounts) i ≡ entry l i
+  unfolding openedIn
   opens-line i q = account (64 + i) (omega (arith, few)) ∙ at-line n b l few i q
 
-  no-balance : (i : ℕ) → n ≤ i → i < 64 → balanceOf (accountsOpened n b l a) i ≡ pos 0
+  no-balance : (i : ℕ) → n ≤ i → i < 64 → balanceOf (openedIn T n b l .accounts) i ≡ pos 0
+  unfolding openedIn
   no-balance i q r = account i (omega arith) ∙ at-low n b l few i q r
 
-  past : (k : ℕ) → 64 + n ≤ k → k < 512 → getD (accountsOpened n b l a) k (pos 0) ≡ pos 0
+  past : (k : ℕ) → 64 + n ≤ k → k < 512 → getD (openedIn T n b l .accounts) k (pos 0) ≡ pos 0
+  unfolding openedIn
   past k q r = account k r ∙ at-high n b l few k q
 
   -- so that the sum of all is that of the balances given,
-  pub opens-money : moneyOf (accountsOpened n b l a) ≡ money n (entry b)
-  opens-money = money-trim (balanceOf (accountsOpened n b l a)) 64 n few no-balance ∙ money-same n (entry b) (balanceOf (accountsOpened n b l a)) opens-balance
+  pub opens-money : moneyOf (openedIn T n b l .accounts) ≡ money n (entry b)
+  unfolding openedIn
+  opens-money = money-trim (balanceOf (openedIn T n b l .accounts)) 64 n few no-balance ∙ money-same n (entry b) (balanceOf (openedIn T n b l .accounts)) opens-balance
 
   -- and the tables hold a state
-  pub opens-hold : Holds (accountsOpened n b l a) (countersOpened n c) (paysOpened p)
+  pub opens-hold : Holds (openedIn T n b l)
+  unfolding openedIn
   opens-hold = record {
-    long = rw (fill-length (accountOpened n b l) a 512 (o .long)) (o .long);
-    broad = rw (fill-length (counterOpened n) c 512 (o .broad)) (o .broad);
-    deep = rw (fill-length (λ k. 0) p 2048 (o .deep)) (o .deep);
-    one = rw opens-count (o .opening .one);
-    few = rw opens-count few;
-    room = rw opens-waiting (omega arith);
-    holders = rw opens-count (λ i q. rw (opens-balance i q, opens-line i q) (holder-is (entry b i) (entry l i) (o .opening .holders i q)));
-    sum = rw opens-money (o .opening .sum);
-    words = rw opens-waiting (λ k q. absurd (omega arith));
-    numbers = λ i q. rw (opens-queue i, counter (128 + i) (omega arith) (omega arith), opens-last i q);
-    no-balance = rw opens-count no-balance;
-    no-line = rw opens-count (λ i q r. past (64 + i) (omega arith) (omega arith));
-    no-number = λ i q r. opens-last i r;
-    no-payment = λ k q r. fill-at (λ j. 0) p 2048 k 0 r;
-    spare-accounts = λ k q. past (128 + k) (omega (arith, few)) (omega arith);
-    spare-counters = λ k q. counter (2 + k) (omega arith) (omega arith);
-    later-counters = λ k q. counter (192 + k) (omega arith) (omega arith);
+    counters = record {
+      broad = rw (fill-length (counterOpened n) (T .counters) 512 (o .broad)) (o .broad);
+      one = rw opens-count (o .opening .one);
+      few = rw opens-count few;
+      room = rw opens-waiting (omega arith);
+      spare = λ k q. counter (2 + k) (omega arith) (omega arith);
+      later = λ k q. counter (192 + k) (omega arith) (omega arith);
+    };
+    accounts = rw opens-count (record {
+      long = rw (fill-length (accountOpened n b l) (T .accounts) 512 (o .long)) (o .long);
+      holders = λ i q. rw (opens-balance i q, opens-line i q) (holder-is (entry b i) (entry l i) (o .opening .holders i q));
+      sum = rw opens-money (o .opening .sum);
+      no-balance = no-balance;
+      no-line = λ i q r. past (64 + i) (omega arith) (omega arith);
+      spare = λ k q. past (128 + k) (omega (arith, few)) (omega arith);
+    });
+    places = rw opens-waiting (record {
+      deep = rw (fill-length (λ k. 0) (T .pays) 2048 (o .deep)) (o .deep);
+      words = λ k q. absurd (omega arith);
+      no-payment = λ k q r. fill-at (λ j. 0) (T .pays) 2048 k 0 r;
+    });
+    numbers = record {
+      each = λ i q. rw (opens-queue i, counter (128 + i) (omega arith) (omega arith), opens-last i q);
+      no-number = λ i q r. opens-last i r;
+    };
   }
-
--- an accepted opening leaves a state
-pub open-holds : (a : List ℤ) (c p : List ℕ) (n : ℕ) (b l : List ℤ) {s : ℤ} → opened a c p n b l ≡ Done s → Holds (accountsOpened n b l a) (countersOpened n c) (paysOpened p)
-open-holds a c p n b l e = opens-hold (open-done a c p n b l e .0)

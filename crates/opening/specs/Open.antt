@@ -1,5 +1,5 @@
--- Open: the answer, and the tables after it (document 01, "Open"; codes 1, 11).
-use mathlib.Core.Bool.{Bool, true, false, cond, not, _&&_}
+-- Open: n members with balances b and lines l (document 01, "Open"; codes 1, 11). The sum of balances is told.
+use mathlib.Core.Bool.{Bool, cond, not, _&&_}
 use mathlib.Core.List.{List, [], _∷_}
 use Prim.Native.Nat.{ℕ, _-_}
 use lib.Dec.{eqb, leb, ltb}
@@ -9,11 +9,11 @@ use lib.ListN.{length, getD}
 use Rattle.rule.specs.Lists.{fill}
 use Rattle.rule.specs.House.{money}
 use Rattle.tables.specs.Sizes.{members, most}
+use Rattle.tables.specs.Layout.{Tables, tables}
 use Rattle.tables.specs.State.{every, holderOk, sized}
-use Rattle.answers.specs.Codes.{test, first}
+use Rattle.answers.specs.Codes.{Test, test}
+use Rattle.answers.specs.Outcome.{Act, outcome}
 use Rattle.answers.specs.declared.Refusal.the-variants.{State, Opening}
-use Rattle.answers.specs.declared.Judged.{Judged}
-use Rattle.answers.specs.declared.Judged.the-variants.{Fine, Bad}
 use Rattle.answers.specs.declared.Opened.{Opened}
 use Rattle.answers.specs.declared.Opened.the-variants.{Done, Refused}
 
@@ -29,15 +29,8 @@ abbrev pub isOpening : ℕ → List ℤ → List ℤ → Bool
 isOpening n b l =
     leb 1 n && (leb n members && (eqb (length b) n && (eqb (length l) n && (every (opensAt b l) n && leZ (money n (entry b)) (pos most)))))
 
-abbrev pub judgeOpen : List ℤ → List ℕ → List ℕ → ℕ → List ℤ → List ℤ → Judged
-judgeOpen a c p n b l = first (test (not (sized a c p)) State ∷ test (not (isOpening n b l)) Opening ∷ [])
-
-abbrev pub answerOpen : ℕ → List ℤ → Judged → Opened
-answerOpen n b (Bad r) = Refused r
-answerOpen n b Fine = Done (money n (entry b))
-
-abbrev pub opened : List ℤ → List ℕ → List ℕ → ℕ → List ℤ → List ℤ → Opened
-opened a c p n b l = answerOpen n b (judgeOpen a c p n b l)
+abbrev pub openTests : Tables → ℕ → List ℤ → List ℤ → List Test
+openTests T n b l = test (not (sized (T .accounts) (T .counters) (T .pays))) State ∷ test (not (isOpening n b l)) Opening ∷ []
 
 -- ---- the tables: overwritten up to the least lengths
 
@@ -49,16 +42,11 @@ accountOpened n b l k = cond (ltb k n) (entry b k) (cond (leb 64 k && ltb (k - 6
 abbrev pub counterOpened : ℕ → ℕ → ℕ
 counterOpened n k = cond (eqb k 0) n 0
 
-abbrev pub accountsOpened : ℕ → List ℤ → List ℤ → List ℤ → List ℤ
-accountsOpened n b l a = fill 512 (accountOpened n b l) a
-
-abbrev pub countersOpened : ℕ → List ℕ → List ℕ
-countersOpened n c = fill 512 (counterOpened n) c
-
 -- no payment waits
-abbrev pub paysOpened : List ℕ → List ℕ
-paysOpened p = fill 2048 (λ k. 0) p
+unfoldable pub openedIn : Tables → ℕ → List ℤ → List ℤ → Tables
+openedIn T n b l = tables (fill 512 (accountOpened n b l) (T .accounts)) (fill 512 (counterOpened n) (T .counters)) (fill 2048 (λ k. 0) (T .pays))
 
-abbrev pub isOpened : Opened → Bool
-isOpened (Done s) = true
-isOpened (Refused r) = false
+-- ---- the call, on any tables: it asks for no state
+
+unfoldable pub openAct : ℕ → List ℤ → List ℤ → Act Opened
+openAct n b l = record { refuse = Refused; tests = λ T. openTests T n b l; does = λ T. outcome (Done (money n (entry b))) (openedIn T n b l) }

@@ -10,8 +10,10 @@ ghost use mathlib.Core.Path.{_≡_};
 ghost use Prim.Native.Nat.{_≤_};
 ghost use lib.ListN.{length};
 ghost use Rattle.rule.specs.Lists.{fill};
+ghost use Rattle.tables.specs.Layout.{tables};
+ghost use Rattle.answers.specs.Codes.{first};
 ghost use Rattle.tables.specs.State.{every};
-ghost use Rattle.opening.specs.Open.{opensAt, isOpening, judgeOpen, accountOpened, counterOpened};
+ghost use Rattle.opening.specs.Open.{opensAt, isOpening, openTests, accountOpened, counterOpened};
 
 // Codes 1 and 11.
 pub fn judge(
@@ -22,7 +24,7 @@ pub fn judge(
     balances: &[i64],
     lines: &[i64],
 ) -> Judged
-    ensures { λ r. ⌜ r ≡ judgeOpen (now (accounts .entry)) (now (counters .entry)) (now (pays .entry)) count (now (balances .entry)) (now (lines .entry)) ⌝ }
+    ensures { λ r. ⌜ r ≡ first (openTests (tables (now (accounts .entry)) (now (counters .entry)) (now (pays .entry))) count (now (balances .entry)) (now (lines .entry))) ⌝ }
 {
     if accounts.len() < House::TABLE {
         return Judged::Bad(Refusal::State);

@@ -1,5 +1,5 @@
 -- What the steps of a resolution give: the finder's largest set is the tables' own, its counts can be booked, and what is booked and told is the promise.
-use mathlib.Core.Path.{_≡_, refl, sym, ap, _∙_, subst}
+use mathlib.Core.Path.{_≡_, refl, sym, ap, _∙_}
 use mathlib.Core.List.{List}
 use Prim.Native.Nat.{ℕ, _+_, _≤_, _<_}
 use native.Mathlib.Decide.{decLt}
@@ -11,10 +11,12 @@ use lib.Seq.{ext-getD, getD-take, length-take-le}
 use borrow.Author.Tests.{lt-ltb, le-ltb}
 use Rattle.rule.specs.Ints.{up}
 use Rattle.rule.specs.Lists.{fill}
-use Rattle.rule.specs.Kernel.{sum}
-use Rattle.rule.specs.House.{waits, sent, LargestSet, Same}
+use Rattle.rule.specs.Kernel.{Counts, sum}
+use Rattle.rule.specs.House.{waits, sent, Same}
 use Rattle.rule.specs.Verdict.{verdictOf}
-use Rattle.rule.proofs.Lists.{fill-length, fill-at}
+use Rattle.rule.proofs.Lists.{fill-length, fill-at, length-listing, getD-listing}
+use Rattle.rule.proofs.Kernel.{largest-unique}
+use Rattle.rule.proofs.Cover.{resolution, resolution-largest}
 use Rattle.rule.proofs.Same.{largest-same}
 use Rattle.sets.specs.Sets.{setOf}
 use Rattle.sets.proofs.Highest.{set-cong}
@@ -22,50 +24,55 @@ use Rattle.finder.specs.Tops.{CountsBelow}
 use Rattle.finder.specs.Resolve.{Sits, Resolved, houseOf as foundIn}
 use Rattle.finder.proofs.Tops.{queue-grows}
 use Rattle.finder.proofs.Counts.{counted-largest}
-use Rattle.tables.specs.Layout.{countOf, waitingOf, lastOf, settledOf, balanceOf, lineOf, houseOf}
+use Rattle.tables.specs.Layout.{Tables, membersIn, waitingIn, houseIn, lastOf, settledOf, balanceOf, lineOf}
 use Rattle.tables.specs.Holds.{Holds}
 use Rattle.tables.proofs.Houses.{holds-payers, holds-sound, no-queue, waiting-sum}
-use Rattle.booking.specs.Booking.{listed, accountsBooked, countersBooked, paysBooked, Counted}
+use Rattle.booking.specs.Booking.{listed, bookedIn, Counted}
 use Rattle.booking.proofs.Entering.{can-enter}
 use Rattle.booking.proofs.Kept.{counts-sum, booked-count, booked-last}
 use Rattle.booking.proofs.Reading.{settled-booked}
 use Rattle.answers.specs.declared.Resolution.{Resolution}
-use Rattle.answers.specs.Verdicts.{numberOf}
-use Rattle.resolving.specs.Resolve.{stillWaits, Told, LargestIs, Settled}
+use Rattle.answers.specs.declared.Resolved.the-variants.{Done}
+use Rattle.answers.specs.Outcome.{outcome}
+use Rattle.answers.specs.Verdicts.{named}
+use Rattle.resolving.specs.Resolve.{largestIn, stillWaits, told, resolveAct, LargestIs}
 
 -- ---- the largest set
 
-module _ {a : List ℤ} {c p : List ℕ} (h : Holds a c p) (bs ls : List ℤ) (each : length bs ≡ 64) (each-line : length ls ≡ 64)
-    (same : (i : ℕ) → i < 64 → getD bs i (pos 0) ≡ balanceOf a i) (same-line : (i : ℕ) → i < 64 → getD ls i (pos 0) ≡ lineOf a i) where
-  none-counted : Counted a c p (replicate 64 0)
+module _ {T : Tables} (h : Holds T) (bs ls : List ℤ) (each : length bs ≡ 64) (each-line : length ls ≡ 64)
+    (same : (i : ℕ) → i < 64 → getD bs i (pos 0) ≡ balanceOf (T .accounts) i) (same-line : (i : ℕ) → i < 64 → getD ls i (pos 0) ≡ lineOf (T .accounts) i) where
+  none-counted : Counted T (replicate 64 0)
   none-counted = record { holds = h; members = length-replicate {A = ℕ} 64 0; within = λ i q. rw (getD-replicate {A = ℕ} 64 i 0 0 q) (omega arith) }
 
   -- the finder can start from the tables,
-  pub can-find : (tops : List ℕ) → length tops ≡ 64 → Sits (countOf c) (waitingOf c) p bs ls tops
+  pub can-find : (tops : List ℕ) → length tops ≡ 64 → Sits (membersIn T) (waitingIn T) (T .pays) bs ls tops
   can-find tops each-top = record {
-    members = h .few;
+    members = h .counters .few;
     entering = can-enter none-counted bs each same;
     each-line = each-line;
     each-top = each-top;
-    nonneg = λ i l. rw (same-line i (omega (arith, h .few))) (h .holders i l .line);
+    nonneg = λ i l. rw (same-line i (omega (arith, h .counters .few))) (h .accounts .holders i l .line);
     payers = holds-payers h;
-    sound = record { covers = λ i l. let q : i < 64 = omega (arith, h .few) in rw (same i q, same-line i q) (holds-sound h .covers i l) };
+    sound = record { covers = λ i l. let q : i < 64 = omega (arith, h .counters .few) in rw (same i q, same-line i q) (holds-sound h .covers i l) };
   }
 
-  same-house : Same (countOf c) (foundIn (waitingOf c) p bs ls) (houseOf a c p)
+  same-house : Same (membersIn T) (foundIn (waitingIn T) (T .pays) bs ls) (houseIn T)
   same-house = record {
-    lines = λ i l. ap up (sym (same-line i (omega (arith, h .few))));
-    balances = λ i l. sym (same i (omega (arith, h .few)));
+    lines = λ i l. ap up (sym (same-line i (omega (arith, h .counters .few))));
+    balances = λ i l. sym (same i (omega (arith, h .counters .few)));
     queues = λ i l. refl;
   }
 
   -- and its counts are those of the largest set of their house
-  pub largest-found : {ys : List ℤ} {tops counts : List ℕ} → Resolved (countOf c) (waitingOf c) p bs ls ys tops → CountsBelow p tops counts → LargestIs a c p counts
+  pub largest-found : {ys : List ℤ} {tops counts : List ℕ} → Resolved (membersIn T) (waitingIn T) (T .pays) bs ls ys tops → CountsBelow (T .pays) tops counts → LargestIs T counts
   largest-found {ys} {tops} {counts} r d = record {
     each = d .each;
-    largest = largest-same same-house (counted-largest (h .few) r d);
-    past = λ i l q. omega (arith, d .below i q, queue-grows p (waitingOf c) i (getD tops i 0) (r .topped .within i q), ap length (no-queue h i l));
+    largest = largest-same same-house (counted-largest (h .counters .few) r d);
+    past = λ i l q. omega (arith, d .below i q, queue-grows (T .pays) (waitingIn T) i (getD tops i 0) (r .topped .within i q), ap length (no-queue h i l));
   }
+
+resolution-same : (x y : Resolution) → x .verdict ≡ y .verdict → x .payments ≡ y .payments → x .sum ≡ y .sum → x .waiting ≡ y .waiting → x ≡ y
+resolution-same x y v p s w j = record { verdict = v j; payments = p j; sum = s j; waiting = w j }
 
 -- ---- the list told
 
@@ -79,53 +86,57 @@ fill-take all r h =
 ltb-plus : (s z w : ℕ) → ltb (s + z) (s + w) ≡ ltb z w
 ltb-plus s z w = elim (decLt z w) [ yes q ↦ lt-ltb (s + z) (s + w) (omega arith) ∙ sym (lt-ltb z w q) | no q ↦ le-ltb (s + z) (s + w) (omega arith) ∙ sym (le-ltb z w (omega arith)) ]
 
-module _ {a : List ℤ} {c p all : List ℕ} (h : Holds a c p) (l : LargestIs a c p all) where
+module _ {T : Tables} {all : List ℕ} (h : Holds T) (l : LargestIs T all) where
   -- the counts can be booked,
-  pub largest-counted : Counted a c p all
+  pub largest-counted : Counted T all
   largest-counted = record {
     holds = h;
     members = l .each;
-    within = λ i q. elim (decLt i (countOf c)) [ yes k ↦ l .largest .allowed .within i k | no k ↦ omega (arith, l .past i (omega arith) q) ];
+    within = λ i q. elim (decLt i (membersIn T)) [ yes k ↦ l .largest .allowed .within i k | no k ↦ omega (arith, l .past i (omega arith) q) ];
   }
 
-  told-at : (i : ℕ) → listed (take (countOf c) all) i ≡ listed all i
-  told-at i = elim (decLt i (countOf c)) [
-    | yes k ↦ getD-take (countOf c) all i 0 k
-    | no k ↦ List·getD-eq-default (take (countOf c) all) 0 {n = i} (omega (arith, length-take-le (countOf c) all (omega (arith, h .few, l .each)))) ∙ sym (rest (omega arith) (decLt i 64))
+  largest-at : (i : ℕ) → listed all i ≡ listed (largestIn T) i
+  unfolding largestIn
+  largest-at i = elim (decLt i (membersIn T)) [
+    | yes k ↦ largest-unique (l .largest) (resolution-largest (holds-sound h)) i k ∙ sym (getD-listing (membersIn T) (resolution (membersIn T) (houseIn T)) i 0 k)
+    | no k ↦ rest (omega arith) (decLt i 64) ∙ sym (List·getD-eq-default (largestIn T) 0 {n = i} (omega (arith, length-listing (membersIn T) (resolution (membersIn T) (houseIn T)))))
   ]
     where
-      rest : countOf c ≤ i → Dec (i < 64) → listed all i ≡ 0
+      rest : membersIn T ≤ i → Dec (i < 64) → listed all i ≡ 0
       rest k (yes q) = l .past i k q
       rest k (no q) = List·getD-eq-default all 0 {n = i} (omega (arith, l .each))
 
-  -- the members' own are all
-  told-all : listed (take (countOf c) all) ≡ listed all
-  told-all j i = told-at i j
+  -- they are the computed ones,
+  largest-all : listed all ≡ listed (largestIn T)
+  largest-all j i = largest-at i j
 
-  ends : setOf (countOf (countersBooked c (listed all))) (λ i. ltb (settledOf (countersBooked c (listed all)) i) (lastOf (countersBooked c (listed all)) i)) ≡ setOf (countOf c) (stillWaits (houseOf a c p) (listed all))
+  largest-take : take (membersIn T) all ≡ largestIn T
+  unfolding largestIn
+  largest-take =
+      let long = length-take-le (membersIn T) all (omega (arith, h .counters .few, l .each)) in
+      ext-getD 0 (take (membersIn T) all) (largestIn T) (long ∙ sym (length-listing (membersIn T) (resolution (membersIn T) (houseIn T))))
+      (λ i q. getD-take (membersIn T) all i 0 (omega (arith, long)) ∙ largest-at i)
+
+  ends : setOf (membersIn (bookedIn T (listed all))) (λ i. ltb (settledOf (bookedIn T (listed all) .counters) i) (lastOf (bookedIn T (listed all) .counters) i)) ≡ setOf (membersIn T) (stillWaits (houseIn T) (listed all))
   ends =
-      ap (λ n. setOf n (λ i. ltb (settledOf (countersBooked c (listed all)) i) (lastOf (countersBooked c (listed all)) i))) (booked-count h (listed all))
-      ∙ set-cong (countOf c) (λ i. ltb (settledOf (countersBooked c (listed all)) i) (lastOf (countersBooked c (listed all)) i)) (stillWaits (houseOf a c p) (listed all)) (λ i q.
-      let k : i < 64 = omega (arith, h .few) in
-      rw (settled-booked h (listed all) i k, booked-last h (listed all) i k, sym (h .numbers i k)) (ltb-plus (settledOf c i) (listed all i) (waits (houseOf a c p) i)))
+      ap (λ n. setOf n (λ i. ltb (settledOf (bookedIn T (listed all) .counters) i) (lastOf (bookedIn T (listed all) .counters) i))) (booked-count h (listed all))
+      ∙ set-cong (membersIn T) (λ i. ltb (settledOf (bookedIn T (listed all) .counters) i) (lastOf (bookedIn T (listed all) .counters) i)) (stillWaits (houseIn T) (listed all)) (λ i q.
+      let k : i < 64 = omega (arith, h .counters .few) in
+      rw (settled-booked h (listed all) i k, booked-last h (listed all) i k, sym (h .numbers .each i k)) (ltb-plus (settledOf (T .counters) i) (listed all i) (waits (houseIn T) i)))
 
-  each-counted : sum 64 (listed all) ≡ sum (countOf c) (listed all)
-  each-counted = counts-sum (countOf c) (listed all) (h .few) (l .past)
+  each-counted : sum 64 (listed all) ≡ sum (membersIn T) (listed all)
+  each-counted = counts-sum (membersIn T) (listed all) (h .counters .few) (l .past)
 
-  -- and what the booking and the telling leave is what a resolution promises
-  pub settles : {a′ : List ℤ} {c′ p′ k′ : List ℕ} (x : Resolution) → a′ ≡ accountsBooked a c p (listed all) → c′ ≡ countersBooked c (listed all) → p′ ≡ paysBooked c p (listed all)
-      → k′ ≡ take (countOf c) all → numberOf (x .verdict) ≡ verdictOf (waitingOf c) (sum 64 (listed all)) → x .payments ≡ sum 64 (listed all)
-      → x .sum ≡ sum (countOf c) (sent (houseOf a c p) (listed all)) → x .waiting ≡ setOf (countOf c′) (λ i. ltb (settledOf c′ i) (lastOf c′ i)) → Settled a c p a′ c′ p′ k′ x
-  settles {k′} x ea ec ep ek ev en es ew = let e : listed k′ ≡ listed all = ap listed ek ∙ told-all in record {
-    members = ap length ek ∙ length-take-le (countOf c) all (omega (arith, h .few, l .each));
-    largest = subst (LargestSet (countOf c) (houseOf a c p)) (sym e) (l .largest);
-    accounts = ea ∙ ap (accountsBooked a c p) (sym e);
-    counters = ec ∙ ap (countersBooked c) (sym e);
-    pays = ep ∙ ap (paysBooked c p) (sym e);
-    told = subst (λ z. Told (countOf c) (houseOf a c p) z x) (sym e) (record {
-      verdict = ev ∙ ap (λ w. verdictOf w (sum 64 (listed all))) (sym (waiting-sum h)) ∙ ap (verdictOf (sum (countOf c) (waits (houseOf a c p)))) each-counted;
-      payments = en ∙ each-counted;
-      sum = es;
-      waiting = ew ∙ ap (λ y. setOf (countOf y) (λ i. ltb (settledOf y i) (lastOf y i))) ec ∙ ends;
-    });
-  }
+  -- and what the booking and the telling leave is what a resolution does
+  pub settles : {W : Tables} {k′ : List ℕ} (k : List ℕ) (x : Resolution) → W ≡ bookedIn T (listed all)
+      → k′ ≡ take (membersIn T) all → x .verdict ≡ named (verdictOf (waitingIn T) (sum 64 (listed all))) → x .payments ≡ sum 64 (listed all)
+      → x .sum ≡ sum (membersIn T) (sent (houseIn T) (listed all)) → x .waiting ≡ setOf (membersIn W) (λ i. ltb (settledOf (W .counters) i) (lastOf (W .counters) i))
+      → outcome (Done x, k′) W ≡ resolveAct k .does T
+  unfolding resolveAct
+  settles k x eb ek ev en es ew =
+      let y : x ≡ told (membersIn T) (houseIn T) (listed all) = resolution-same x (told (membersIn T) (houseIn T) (listed all))
+      (ev ∙ ap (λ w. named (verdictOf w (sum 64 (listed all)))) (sym (waiting-sum h)) ∙ ap (λ n. named (verdictOf (sum (membersIn T) (waits (houseIn T))) n)) each-counted)
+      (en ∙ each-counted)
+      es
+      (ew ∙ ap (λ (Y : Tables). setOf (membersIn Y) (λ i. ltb (settledOf (Y .counters) i) (lastOf (Y .counters) i))) eb ∙ ends) in
+      (λ j. outcome (Done (y j), (ek ∙ largest-take) j) (eb j)) ∙ ap (λ (z : Counts). outcome (Done (told (membersIn T) (houseIn T) z), largestIn T) (bookedIn T z)) largest-all

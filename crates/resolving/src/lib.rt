@@ -10,10 +10,11 @@ ghost use lib.Dec.{ltb};
 ghost use lib.ListN.{length, take};
 ghost use Rattle.rule.specs.Verdict.{verdictOf};
 ghost use Rattle.sets.specs.Sets.{setOf};
-ghost use Rattle.tables.specs.Layout.{countOf, lastOf, settledOf};
+ghost use Rattle.tables.specs.Layout.{tables, countOf, lastOf, settledOf};
 ghost use Rattle.tables.specs.Holds.{Holds};
-ghost use Rattle.answers.specs.Verdicts.{numberOf};
-ghost use Rattle.resolving.specs.Resolve.{judgeHeld, Resolves, LargestIs};
+ghost use Rattle.answers.specs.Outcome.{outcome, held};
+ghost use Rattle.answers.specs.Verdicts.{named};
+ghost use Rattle.resolving.specs.Resolve.{resolveAct, LargestIs};
 
 // Settles the largest allowed set, and writes its counts into the lent list.
 pub fn resolve(
@@ -22,8 +23,8 @@ pub fn resolve(
     pays: &mut [u64],
     counts: &mut [u16],
 ) -> Resolved
-    requires { ⌜ Holds (now accounts) (now counters) (now pays) ⌝ }
-    ensures { λ r. ⌜ Resolves (judgeHeld (now (counters .entry)) (now (counts .entry))) (now (accounts .entry)) (now (counters .entry)) (now (pays .entry)) (now (counts .entry)) (now (accounts .exit)) (now (counters .exit)) (now (pays .exit)) (now (counts .exit)) r ⌝ }
+    requires { ⌜ Holds (tables (now accounts) (now counters) (now pays)) ⌝ }
+    ensures { λ r. ⌜ outcome (r, now (counts .exit)) (tables (now (accounts .exit)) (now (counters .exit)) (now (pays .exit))) ≡ held (resolveAct (now (counts .entry))) (tables (now (accounts .entry)) (now (counters .entry)) (now (pays .entry))) ⌝ }
 {
     if counts.len() != wide(counters[0]) {
         return Resolved::Refused(Refusal::Counts);
@@ -44,8 +45,8 @@ pub fn resolve(
 
 // The counts of the largest allowed set, for 64 members.
 fn largest(accounts: &[i64], counters: &[u32], pays: &[u64]) -> [u16; 64]
-    requires { ⌜ Holds (now accounts) (now counters) (now pays) ⌝ }
-    ensures { λ r. ⌜ LargestIs (now (accounts .entry)) (now (counters .entry)) (now (pays .entry)) r ⌝ }
+    requires { ⌜ Holds (tables (now accounts) (now counters) (now pays)) ⌝ }
+    ensures { λ r. ⌜ LargestIs (tables (now (accounts .entry)) (now (counters .entry)) (now (pays .entry))) r ⌝ }
 {
     let used = wide(counters[1]);
     let n = wide(counters[0]);
@@ -70,7 +71,7 @@ fn tell(counts: &mut [u16], all: &[u16])
 
 // The verdict, by how many payments waited and how many of them were settled.
 fn verdict_of(waited: u32, settled: u32) -> Verdict
-    ensures { λ r. ⌜ numberOf r ≡ verdictOf waited settled ⌝ }
+    ensures { λ r. ⌜ r ≡ named (verdictOf waited settled) ⌝ }
 {
     if waited == 0 {
         return Verdict::Empty;

@@ -18,25 +18,26 @@ use Rattle.rule.proofs.Sums.{sum-one, sum-zero}
 use Rattle.rule.proofs.Find.{put-at, put-other, put-all}
 use Rattle.rule.proofs.Steps.{worth-suc}
 use Rattle.rule.proofs.Demands.{release-covered}
-use Rattle.tables.specs.Layout.{countOf, lastOf, settledOf, balanceOf, lineOf, houseOf}
+use Rattle.tables.specs.Layout.{Tables, membersIn, houseIn, lastOf, settledOf, balanceOf, lineOf}
 use Rattle.tables.specs.State.{every}
 use Rattle.tables.specs.Holds.{Holds}
 use Rattle.tables.proofs.Tests.{and-both, and-of, le-true, true-le}
 use Rattle.tables.proofs.Every.{every-at, every-of}
 use Rattle.tables.proofs.Houses.{holds-sound, holds-proper, waits-is, line-is, no-queue}
-use Rattle.booking.specs.Booking.{listed, accountsBooked, countersBooked, paysBooked, Counted}
-use Rattle.booking.proofs.Kept.{counts-sum}
+use Rattle.booking.specs.Booking.{listed, bookedIn, Counted}
+use Rattle.booking.proofs.Kept.{Books, counts-sum}
 use Rattle.answers.specs.Codes.{test, first, isMember}
-use Rattle.answers.specs.declared.Refusal.the-variants.{Member, Nothing, Cover, Counts as BadCounts}
-use Rattle.answers.specs.declared.Judged.{Judged}
+use Rattle.answers.specs.Outcome.{Outcome, outcome, decided, held}
+use Rattle.answers.specs.declared.Refusal.the-variants.{Nothing, Cover, Counts as BadCounts}
 use Rattle.answers.specs.declared.Judged.the-variants.{Fine, Bad}
 use Rattle.answers.specs.declared.Grouped.{Grouped}
 use Rattle.answers.specs.declared.Grouped.the-variants.{Done, Refused}
 use Rattle.answers.specs.declared.Released.{Released}
 use Rattle.answers.specs.declared.Released.the-variants as releasing
 use Rattle.answers.proofs.Judging.{first-fine, member-in}
-use Rattle.settling.specs.Release.{headAmount, headCovered, onlyHead, judgeRelease, answerRelease, heldRelease, isReleased}
-use Rattle.settling.specs.Group.{countAt, isCounts, countsFit, coverAt, isCovered, judgeCover, answerGroup, heldGroup, isGrouped}
+use Rattle.answers.proofs.Outcomes.{held-same}
+use Rattle.settling.specs.Release.{headAmount, headCovered, onlyHead, releaseAct}
+use Rattle.settling.specs.Group.{countAt, isCounts, countsFit, coverAt, isCovered, bookAct, groupAct}
 
 same-bools : (t u : Bool) → (t ≡ true → u ≡ true) → (u ≡ true → t ≡ true) → t ≡ u
 same-bools true u f g = sym (f refl)
@@ -54,86 +55,69 @@ covered-allowed n H z u = (
 
 -- ---- the counts of a group
 
-module _ {a : List ℤ} {c p : List ℕ} (h : Holds a c p) (k : List ℕ) where
+module _ {T : Tables} (h : Holds T) (k : List ℕ) where
   -- the counters tell whether no count is above what waits
-  pub counts-fit : countsFit c k ≡ isCounts (countOf c) (houseOf a c p) k
-  counts-fit = same-bools (countsFit c k) (isCounts (countOf c) (houseOf a c p) k)
-      (λ e. let b = and-both (eqb (length k) (countOf c)) (every byCounters (countOf c)) e in rw (b .0) (every-of (countAt (houseOf a c p) k) (countOf c) (λ i q. there i q (every-at byCounters (countOf c) i (b .1) q))))
-      (λ e. let b = and-both (eqb (length k) (countOf c)) (every (countAt (houseOf a c p) k) (countOf c)) e in rw (b .0) (every-of byCounters (countOf c) (λ i q. back i q (every-at (countAt (houseOf a c p) k) (countOf c) i (b .1) q))))
+  pub counts-fit : countsFit (T .counters) k ≡ isCounts (membersIn T) (houseIn T) k
+  counts-fit = same-bools (countsFit (T .counters) k) (isCounts (membersIn T) (houseIn T) k)
+      (λ e. let b = and-both (eqb (length k) (membersIn T)) (every byCounters (membersIn T)) e in rw (b .0) (every-of (countAt (houseIn T) k) (membersIn T) (λ i q. there i q (every-at byCounters (membersIn T) i (b .1) q))))
+      (λ e. let b = and-both (eqb (length k) (membersIn T)) (every (countAt (houseIn T) k) (membersIn T)) e in rw (b .0) (every-of byCounters (membersIn T) (λ i q. back i q (every-at (countAt (houseIn T) k) (membersIn T) i (b .1) q))))
     where
       byCounters : ℕ → Bool
-      byCounters i = leb (listed k i) (lastOf c i - settledOf c i)
+      byCounters i = leb (listed k i) (lastOf (T .counters) i - settledOf (T .counters) i)
 
-      there : (i : ℕ) → i < countOf c → byCounters i ≡ true → countAt (houseOf a c p) k i ≡ true
-      there i q e = rw (waits-is h i (omega (arith, h .few))) e
+      there : (i : ℕ) → i < membersIn T → byCounters i ≡ true → countAt (houseIn T) k i ≡ true
+      there i q e = rw (waits-is h i (omega (arith, h .counters .few))) e
 
-      back : (i : ℕ) → i < countOf c → countAt (houseOf a c p) k i ≡ true → byCounters i ≡ true
-      back i q e = rw (waits-is h i (omega (arith, h .few))) at e
+      back : (i : ℕ) → i < membersIn T → countAt (houseIn T) k i ≡ true → byCounters i ≡ true
+      back i q e = rw (waits-is h i (omega (arith, h .counters .few))) at e
 
   -- a list of counts is as long as the member count
-  pub counts-length : isCounts (countOf c) (houseOf a c p) k ≡ true → length k ≡ countOf c
-  counts-length e = eqb-true (length k) (countOf c) (and-both (eqb (length k) (countOf c)) (every (countAt (houseOf a c p) k) (countOf c)) e .0)
+  pub counts-length : isCounts (membersIn T) (houseIn T) k ≡ true → length k ≡ membersIn T
+  counts-length e = eqb-true (length k) (membersIn T) (and-both (eqb (length k) (membersIn T)) (every (countAt (houseIn T) k) (membersIn T)) e .0)
 
 -- no more was settled than was accepted
-pub settled-last : {a : List ℤ} {c p : List ℕ} → Holds a c p → (i : ℕ) → i < 64 → settledOf c i ≤ lastOf c i
-settled-last h i q = omega (arith, h .numbers i q)
+pub settled-last : {T : Tables} → Holds T → (i : ℕ) → i < 64 → settledOf (T .counters) i ≤ lastOf (T .counters) i
+settled-last h i q = omega (arith, h .numbers .each i q)
 
 -- ---- the answer of a booking that was tried
 
 -- past the members no payment is counted
-pub counted-zero : {a : List ℤ} {c p k : List ℕ} → Counted a c p k → (i : ℕ) → countOf c ≤ i → i < 64 → listed k i ≡ 0
-counted-zero {a} {c} {p} {k} d i h q =
-    let e : waits (houseOf a c p) i ≡ 0 = ap length (no-queue (d .holds) i h) in
+pub counted-zero : {T : Tables} {k : List ℕ} → Counted T k → (i : ℕ) → membersIn T ≤ i → i < 64 → listed k i ≡ 0
+counted-zero {T} {k} d i h q =
+    let e : waits (houseIn T) i ≡ 0 = ap length (no-queue (d .holds) i h) in
     omega (arith, d .within i q)
 
-module _ (n : ℕ) (H : House) (z : Counts) where
-  pub refused-answer : isCovered n H z ≡ false → Refused Cover ≡ answerGroup n H z (judgeCover n H z)
-  refused-answer e = rw e
-
-  pub booked-answer : isCovered n H z ≡ true → Done (sum n z) (sum n (sent H z)) ≡ answerGroup n H z (judgeCover n H z)
-  booked-answer e = rw e
-
 -- the tally of the 64 counts is how many payments the members settle
-pub tally-members : {a : List ℤ} {c p k : List ℕ} → Counted a c p k → sum (length k) (listed k) ≡ sum (countOf c) (listed k)
-tally-members {a} {c} {p} {k} d = rw (d .members) (counts-sum (countOf c) (listed k) (d .holds .few) (counted-zero d))
+pub tally-members : {T : Tables} {k : List ℕ} → Counted T k → sum (length k) (listed k) ≡ sum (membersIn T) (listed k)
+tally-members {T} {k} d = rw (d .members) (counts-sum (membersIn T) (listed k) (d .holds .counters .few) (counted-zero d))
 
 -- ---- a group
 
--- what was tried with the counts z
-pub record Tried (a : List ℤ) (c p : List ℕ) (z : Counts) (a′ : List ℤ) (c′ p′ : List ℕ) (r : Grouped) : Type 0 where
-  pub answer : r ≡ answerGroup (countOf c) (houseOf a c p) z (judgeCover (countOf c) (houseOf a c p) z)
-  pub accounts : a′ ≡ cond (isGrouped r) (accountsBooked a c p z) a
-  pub counters : c′ ≡ cond (isGrouped r) (countersBooked c z) c
-  pub pays : p′ ≡ cond (isGrouped r) (paysBooked c p z) p
-
--- equal counts do the same
-pub tried-same : {a : List ℤ} {c p : List ℕ} {z y : Counts} {a′ : List ℤ} {c′ p′ : List ℕ} {r : Grouped} → z ≡ y → Tried a c p z a′ c′ p′ r → Tried a c p y a′ c′ p′ r
-tried-same {a} {c} {p} {a′ = a′} {c′} {p′} {r} e t = subst (λ (x : Counts). Tried a c p x a′ c′ p′ r) e t
-
--- and so do equal answers
-pub tried-answer : {a : List ℤ} {c p : List ℕ} {z : Counts} {a′ : List ℤ} {c′ p′ : List ℕ} {r g : Grouped} → r ≡ g → Tried a c p z a′ c′ p′ r → Tried a c p z a′ c′ p′ g
-tried-answer {a} {c} {p} {z} {a′} {c′} {p′} e t = subst (λ (x : Grouped). Tried a c p z a′ c′ p′ x) e t
-
-module _ {a : List ℤ} {c p : List ℕ} (h : Holds a c p) (k : List ℕ) where
+module _ {T : Tables} (h : Holds T) (k : List ℕ) where
   -- a list that is not one of counts is refused,
-  pub group-bad : isCounts (countOf c) (houseOf a c p) k ≡ false → Refused BadCounts ≡ heldGroup a c p k
+  pub group-bad : isCounts (membersIn T) (houseIn T) k ≡ false → first (groupAct k .tests T) ≡ Bad BadCounts
+  unfolding groupAct
   group-bad e = rw e
 
   -- and one that is can be tried
-  pub group-tried : isCounts (countOf c) (houseOf a c p) k ≡ true
-      → answerGroup (countOf c) (houseOf a c p) (listed k) (judgeCover (countOf c) (houseOf a c p) (listed k)) ≡ heldGroup a c p k
-  group-tried e = rw e
+  pub group-tests : isCounts (membersIn T) (houseIn T) k ≡ true → first (bookAct (listed k) .tests T) ≡ first (groupAct k .tests T)
+  unfolding groupAct
+  group-tests e = rw e
 
-  pub group-counted : (all : List ℕ) → isCounts (countOf c) (houseOf a c p) k ≡ true → length all ≡ 64 → listed all ≡ listed k → Counted a c p all
-  group-counted all e l q = record { holds = h; members = l; within = λ i s. omega (arith, ap (λ (f : Counts). f i) q, go i s (decLt i (countOf c))) }
+  pub group-tried : isCounts (membersIn T) (houseIn T) k ≡ true → held (bookAct (listed k)) T ≡ held (groupAct k) T
+  unfolding groupAct bookAct
+  group-tried e = held-same (bookAct (listed k)) (groupAct k) T (λ r. refl) refl (group-tests e)
+
+  pub group-counted : (all : List ℕ) → isCounts (membersIn T) (houseIn T) k ≡ true → length all ≡ 64 → listed all ≡ listed k → Counted T all
+  group-counted all e l q = record { holds = h; members = l; within = λ i s. omega (arith, ap (λ (f : Counts). f i) q, go i s (decLt i (membersIn T))) }
     where
-      b : (eqb (length k) (countOf c) ≡ true) × (every (countAt (houseOf a c p) k) (countOf c) ≡ true)
-      b = and-both (eqb (length k) (countOf c)) (every (countAt (houseOf a c p) k) (countOf c)) e
+      b : (eqb (length k) (membersIn T) ≡ true) × (every (countAt (houseIn T) k) (membersIn T) ≡ true)
+      b = and-both (eqb (length k) (membersIn T)) (every (countAt (houseIn T) k) (membersIn T)) e
 
-      go : (i : ℕ) → i < 64 → Dec (i < countOf c) → listed k i ≤ waits (houseOf a c p) i
-      go i s (yes y) = leb-true (listed k i) (waits (houseOf a c p) i) (every-at (countAt (houseOf a c p) k) (countOf c) i (b .1) y)
+      go : (i : ℕ) → i < 64 → Dec (i < membersIn T) → listed k i ≤ waits (houseIn T) i
+      go i s (yes y) = leb-true (listed k i) (waits (houseIn T) i) (every-at (countAt (houseIn T) k) (membersIn T) i (b .1) y)
       go i s (no y) =
-          let z : listed k i ≡ 0 = List·getD-eq-default k 0 (omega (arith, eqb-true (length k) (countOf c) (b .0))) in
+          let z : listed k i ≡ 0 = List·getD-eq-default k 0 (omega (arith, eqb-true (length k) (membersIn T) (b .0))) in
           omega arith
 
 -- ---- a release
@@ -143,102 +127,94 @@ abbrev pub asReleased : ℕ → ℕ → Grouped → Released
 asReleased m n (Refused r) = releasing.Refused r
 asReleased m n (Done k s) = releasing.Done m n s
 
-module _ {a : List ℤ} {c p : List ℕ} (h : Holds a c p) (m : ℕ) (one : 1 ≤ m) (within : m ≤ countOf c) where
-  seat : m - 1 < countOf c
+abbrev pub releasedBy : ℕ → ℕ → Outcome Grouped → Outcome Released
+releasedBy m n o = outcome (asReleased m n (o .answer)) (o .after)
+
+module _ {T : Tables} (h : Holds T) (m : ℕ) (one : 1 ≤ m) (within : m ≤ membersIn T) where
+  seat : m - 1 < membersIn T
   seat = omega arith
 
-  member : isMember c m ≡ true
-  member = and-of (le-leb 1 m one) (le-leb m (countOf c) within)
+  member : isMember (T .counters) m ≡ true
+  member = and-of (le-leb 1 m one) (le-leb m (membersIn T) within)
 
   -- where nothing waits there it is refused
-  pub release-nothing : waits (houseOf a c p) (m - 1) ≡ 0 → releasing.Refused Nothing ≡ heldRelease a c p m
-  release-nothing e = rw (member, eq-eqb (waits (houseOf a c p) (m - 1)) 0 e)
+  pub release-nothing : waits (houseIn T) (m - 1) ≡ 0 → first (releaseAct m .tests T) ≡ Bad Nothing
+  unfolding releaseAct
+  release-nothing e = rw (member, eq-eqb (waits (houseIn T) (m - 1)) 0 e)
 
-  module _ (some : waits (houseOf a c p) (m - 1) ≢ 0) where
-    within-head : Under 64 (onlyHead m) (waits (houseOf a c p))
-    within-head i q = put-all (λ j x. x ≤ waits (houseOf a c p) j) none (m - 1) 1 i (omega arith) (λ ne. omega arith)
+  module _ (some : waits (houseIn T) (m - 1) ≢ 0) where
+    within-head : Under 64 (onlyHead m) (waits (houseIn T))
+    within-head i q = put-all (λ j x. x ≤ waits (houseIn T) j) none (m - 1) 1 i (omega arith) (λ ne. omega arith)
 
     -- the head alone can be tried,
-    pub head-counted : (all : List ℕ) → length all ≡ 64 → listed all ≡ onlyHead m → Counted a c p all
+    pub head-counted : (all : List ℕ) → length all ≡ 64 → listed all ≡ onlyHead m → Counted T all
     head-counted all l q = record { holds = h; members = l; within = λ i s. omega (arith, ap (λ (f : Counts). f i) q, within-head i s) }
 
     -- it is covered exactly when balance + line reach its amount,
-    head-covered : isCovered (countOf c) (houseOf a c p) (onlyHead m) ≡ headCovered a c p m
+    head-covered : isCovered (membersIn T) (houseIn T) (onlyHead m) ≡ headCovered T m
     head-covered =
         let r = release-covered (holds-sound h) (holds-proper h) (m - 1) seat (omega arith) in
-        let s = covered-allowed (countOf c) (houseOf a c p) (onlyHead m) (λ i q. within-head i (omega (arith, h .few))) in
-        let x = pos (headAmount a c p m) in
-        let l : balanceOf a (m - 1) +ℤ lineOf a (m - 1) ≡ balanceOf a (m - 1) +ℤ pos (houseOf a c p .line (m - 1)) = rw (line-is h (m - 1) (omega (arith, h .few))) in
-        same-bools (isCovered (countOf c) (houseOf a c p) (onlyHead m)) (headCovered a c p m)
-        (λ e. true-le x (balanceOf a (m - 1) +ℤ lineOf a (m - 1)) (rw l (r .0 (s .0 e))))
-        (λ e. s .1 (r .1 (rw l at (le-true x (balanceOf a (m - 1) +ℤ lineOf a (m - 1)) e))))
+        let s = covered-allowed (membersIn T) (houseIn T) (onlyHead m) (λ i q. within-head i (omega (arith, h .counters .few))) in
+        let x = pos (headAmount T m) in
+        let l : balanceOf (T .accounts) (m - 1) +ℤ lineOf (T .accounts) (m - 1) ≡ balanceOf (T .accounts) (m - 1) +ℤ pos (houseIn T .line (m - 1)) = rw (line-is h (m - 1) (omega (arith, h .counters .few))) in
+        same-bools (isCovered (membersIn T) (houseIn T) (onlyHead m)) (headCovered T m)
+        (λ e. true-le x (balanceOf (T .accounts) (m - 1) +ℤ lineOf (T .accounts) (m - 1)) (rw l (r .0 (s .0 e))))
+        (λ e. s .1 (r .1 (rw l at (le-true x (balanceOf (T .accounts) (m - 1) +ℤ lineOf (T .accounts) (m - 1)) e))))
 
     -- and its amount is the sum of what leaves
-    head-sum : sum (countOf c) (sent (houseOf a c p) (onlyHead m)) ≡ headAmount a c p m
+    head-sum : sum (membersIn T) (sent (houseIn T) (onlyHead m)) ≡ headAmount T m
     unfolding sent worth
     head-sum =
-        sum-one (countOf c) (sent (houseOf a c p) (onlyHead m)) none (m - 1) (headAmount a c p m) seat
-        (rw put-at (worth-suc amountOf (houseOf a c p .queue (m - 1)) 0 (omega arith)))
+        sum-one (membersIn T) (sent (houseIn T) (onlyHead m)) none (m - 1) (headAmount T m) seat
+        (rw put-at (worth-suc amountOf (houseIn T .queue (m - 1)) 0 (omega arith)))
         (λ i q ne. rw (put-other none (m - 1) 1 i ne))
-        ∙ omega (arith, sum-zero (countOf c))
+        ∙ omega (arith, sum-zero (membersIn T))
 
     -- so a release is the booking of one
-    pub release-tried : asReleased m (settledOf c (m - 1) + 1) (answerGroup (countOf c) (houseOf a c p) (onlyHead m) (judgeCover (countOf c) (houseOf a c p) (onlyHead m)))
-        ≡ heldRelease a c p m
-    release-tried = rw (member, ne-eqb (waits (houseOf a c p) (m - 1)) 0 some, ← head-covered) (go (isCovered (countOf c) (houseOf a c p) (onlyHead m)))
+    pub release-tried : releasedBy m (settledOf (T .counters) (m - 1) + 1) (held (bookAct (onlyHead m)) T) ≡ held (releaseAct m) T
+    unfolding releaseAct bookAct held
+    release-tried = rw (member, ne-eqb (waits (houseIn T) (m - 1)) 0 some, ← head-covered) (go (isCovered (membersIn T) (houseIn T) (onlyHead m)))
       where
-        go : (b : Bool) → asReleased m (settledOf c (m - 1) + 1) (answerGroup (countOf c) (houseOf a c p) (onlyHead m) (first (test (not b) Cover ∷ [])))
-            ≡ answerRelease a c p m (first (test (not b) Cover ∷ []))
-        go true = ap (releasing.Done m (settledOf c (m - 1) + 1)) head-sum
+        go : (b : Bool) → releasedBy m (settledOf (T .counters) (m - 1) + 1) (decided (bookAct (onlyHead m)) T (first (test (not b) Cover ∷ [])))
+            ≡ decided (releaseAct m) T (first (test (not b) Cover ∷ []))
+        go true = ap (λ x. outcome (releasing.Done m (settledOf (T .counters) (m - 1) + 1) x) (bookedIn T (onlyHead m))) head-sum
         go false = refl
+
+    -- as the code has it: what the booking left, with its answer told as a release's
+    pub release-done : {g : Grouped} {W : Tables} {z : Counts} → z ≡ onlyHead m → outcome g W ≡ held (bookAct z) T
+        → outcome (asReleased m (settledOf (T .counters) (m - 1) + 1) g) W ≡ held (releaseAct m) T
+    release-done e f = ap (releasedBy m (settledOf (T .counters) (m - 1) + 1)) (f ∙ ap (λ (y : Counts). held (bookAct y) T) e) ∙ release-tried
 
 -- ---- what an accepted call books
 
--- z is allowed, and counts nothing past the members
-pub record Books (a : List ℤ) (c p : List ℕ) (z : Counts) : Type 0 where
-  pub allowed : AllowedSet (countOf c) (houseOf a c p) z
-  pub past : (i : ℕ) → countOf c ≤ i → i < 64 → z i ≡ 0
-
 -- of a list of counts, a group is accepted exactly when the set is allowed
-pub group-exact : {a : List ℤ} {c p : List ℕ} → Holds a c p → (k : List ℕ) → isCounts (countOf c) (houseOf a c p) k ≡ true
-    → (isGrouped (heldGroup a c p k) ≡ true) ↔ AllowedSet (countOf c) (houseOf a c p) (listed k)
-group-exact {a} {c} {p} h k e = rw (← group-tried h k e) (
-  λ t. covered .0 (there (isCovered (countOf c) (houseOf a c p) (listed k)) t),
+pub group-exact : {T : Tables} → Holds T → (k : List ℕ) → isCounts (membersIn T) (houseIn T) k ≡ true
+    → (first (groupAct k .tests T) ≡ Fine) ↔ AllowedSet (membersIn T) (houseIn T) (listed k)
+unfolding bookAct
+group-exact {T} h k e = rw (← group-tests h k e) (
+  λ t. covered .0 (not-false (isCovered (membersIn T) (houseIn T) (listed k)) (first-fine (bookAct (listed k) .tests T) t .0)),
   λ s. rw (covered .1 s),
 )
   where
-    covered : (isCovered (countOf c) (houseOf a c p) (listed k) ≡ true) ↔ AllowedSet (countOf c) (houseOf a c p) (listed k)
-    covered = covered-allowed (countOf c) (houseOf a c p) (listed k) (λ i q. leb-true (listed k i) (waits (houseOf a c p) i) (every-at (countAt (houseOf a c p) k) (countOf c) i (and-both (eqb (length k) (countOf c)) (every (countAt (houseOf a c p) k) (countOf c)) e .1) q))
-
-    there : (b : Bool) → isGrouped (answerGroup (countOf c) (houseOf a c p) (listed k) (first (test (not b) Cover ∷ []))) ≡ true → b ≡ true
-    there true t = refl
-    there false t = absurd (false≢true t)
+    covered : (isCovered (membersIn T) (houseIn T) (listed k) ≡ true) ↔ AllowedSet (membersIn T) (houseIn T) (listed k)
+    covered = covered-allowed (membersIn T) (houseIn T) (listed k) (λ i q. leb-true (listed k i) (waits (houseIn T) i) (every-at (countAt (houseIn T) k) (membersIn T) i (and-both (eqb (length k) (membersIn T)) (every (countAt (houseIn T) k) (membersIn T)) e .1) q))
 
 -- an accepted group books its counts,
-pub group-books : {a : List ℤ} {c p : List ℕ} → Holds a c p → (k : List ℕ) → isGrouped (heldGroup a c p k) ≡ true → Books a c p (listed k)
-group-books {a} {c} {p} h k t = go (isCounts (countOf c) (houseOf a c p) k) refl
-  where
-    go : (b : Bool) → isCounts (countOf c) (houseOf a c p) k ≡ b → Books a c p (listed k)
-    go false e = absurd (false≢true (ap isGrouped (group-bad h k e) ∙ t))
-    go true e = record {
-      allowed = group-exact h k e .0 t;
-      past = λ i q l. List·getD-eq-default k 0 (omega (arith, counts-length h k e));
-    }
+pub group-books : {T : Tables} → Holds T → (k : List ℕ) → first (groupAct k .tests T) ≡ Fine → Books T (listed k)
+unfolding groupAct
+group-books {T} h k t =
+    let e = not-false (isCounts (membersIn T) (houseIn T) k) (first-fine (groupAct k .tests T) t .0) in
+    record { allowed = group-exact h k e .0 t; past = λ i q l. List·getD-eq-default k 0 (omega (arith, counts-length h k e)) }
 
 -- and an accepted release the head alone
-pub release-books : {a : List ℤ} {c p : List ℕ} → Holds a c p → (m : ℕ) → isReleased (heldRelease a c p m) ≡ true → Books a c p (onlyHead m)
-release-books {a} {c} {p} h m t =
-    let f = first-fine
-    (test (not (isMember c m)) Member ∷ test (eqb (waits (houseOf a c p) (m - 1)) 0) Nothing ∷ test (not (headCovered a c p m)) Cover ∷ [])
-    (go (judgeRelease a c p m) t) in
-    let i = member-in c m (not-false (isMember c m) (f .0)) in
-    let some = eqb-false (waits (houseOf a c p) (m - 1)) 0 (f .1 .0) in
-    let covered = head-covered h m (i .0) (i .1) some ∙ not-false (headCovered a c p m) (f .1 .1 .0) in
+pub release-books : {T : Tables} → Holds T → (m : ℕ) → first (releaseAct m .tests T) ≡ Fine → Books T (onlyHead m)
+unfolding releaseAct
+release-books {T} h m t =
+    let f = first-fine (releaseAct m .tests T) t in
+    let i = member-in (T .counters) m (not-false (isMember (T .counters) m) (f .0)) in
+    let some = eqb-false (waits (houseIn T) (m - 1)) 0 (f .1 .0) in
+    let covered = head-covered h m (i .0) (i .1) some ∙ not-false (headCovered T m) (f .1 .1 .0) in
     record {
-      allowed = covered-allowed (countOf c) (houseOf a c p) (onlyHead m) (λ j q. within-head h m (i .0) (i .1) some j (omega (arith, h .few))) .0 covered;
+      allowed = covered-allowed (membersIn T) (houseIn T) (onlyHead m) (λ j q. within-head h m (i .0) (i .1) some j (omega (arith, h .counters .few))) .0 covered;
       past = λ j q l. put-other none (m - 1) 1 j (λ e. omega (arith, i .0, i .1));
     }
-  where
-    go : (j : Judged) → isReleased (answerRelease a c p m j) ≡ true → j ≡ Fine
-    go Fine t = refl
-    go (Bad r) t = absurd (false≢true t)

@@ -5,15 +5,15 @@ use answers::Released;
 use answers::judge::is_member;
 use tables::steps::wide;
 ghost use mathlib.Core.Path.{_≡_};
-ghost use mathlib.Core.Bool.{cond};
 ghost use Prim.Native.Nat.{ℕ, _+_, _-_, _<_, _≤_};
 ghost use lib.ListN.{length};
 ghost use Rattle.rule.specs.Kernel.{none, put};
-ghost use Rattle.tables.specs.Layout.{countOf, lastOf, settledOf, houseOf};
+ghost use Rattle.tables.specs.Layout.{tables, countOf, lastOf, settledOf};
 ghost use Rattle.tables.specs.Holds.{Holds};
-ghost use Rattle.booking.specs.Booking.{Counted, listed, accountsBooked, countersBooked, paysBooked};
-ghost use Rattle.settling.specs.Release.{heldRelease, isReleased, onlyHead};
-ghost use Rattle.settling.specs.Group.{countsFit, judgeCover, answerGroup, heldGroup, isGrouped};
+ghost use Rattle.booking.specs.Booking.{Counted, listed};
+ghost use Rattle.answers.specs.Outcome.{outcome, held};
+ghost use Rattle.settling.specs.Release.{releaseAct};
+ghost use Rattle.settling.specs.Group.{countsFit, bookAct, groupAct};
 
 // Settles a member's head payment if balance + line reach its amount.
 pub fn release(
@@ -22,11 +22,8 @@ pub fn release(
     pays: &mut [u64],
     member: u64,
 ) -> Released
-    requires { ⌜ Holds (now accounts) (now counters) (now pays) ⌝ }
-    ensures { λ r. ⌜ r ≡ heldRelease (now (accounts .entry)) (now (counters .entry)) (now (pays .entry)) member ⌝ }
-    ensures { λ r. ⌜ now (accounts .exit) ≡ cond (isReleased r) (accountsBooked (now (accounts .entry)) (now (counters .entry)) (now (pays .entry)) (onlyHead member)) (now (accounts .entry)) ⌝ }
-    ensures { λ r. ⌜ now (counters .exit) ≡ cond (isReleased r) (countersBooked (now (counters .entry)) (onlyHead member)) (now (counters .entry)) ⌝ }
-    ensures { λ r. ⌜ now (pays .exit) ≡ cond (isReleased r) (paysBooked (now (counters .entry)) (now (pays .entry)) (onlyHead member)) (now (pays .entry)) ⌝ }
+    requires { ⌜ Holds (tables (now accounts) (now counters) (now pays)) ⌝ }
+    ensures { λ r. ⌜ outcome r (tables (now (accounts .exit)) (now (counters .exit)) (now (pays .exit))) ≡ held (releaseAct member) (tables (now (accounts .entry)) (now (counters .entry)) (now (pays .entry))) ⌝ }
 {
     if !is_member(counters, member) {
         return Released::Refused(Refusal::Member);
@@ -77,11 +74,8 @@ pub fn group(
     pays: &mut [u64],
     counts: &[u16],
 ) -> Grouped
-    requires { ⌜ Holds (now accounts) (now counters) (now pays) ⌝ }
-    ensures { λ r. ⌜ r ≡ heldGroup (now (accounts .entry)) (now (counters .entry)) (now (pays .entry)) (now (counts .entry)) ⌝ }
-    ensures { λ r. ⌜ now (accounts .exit) ≡ cond (isGrouped r) (accountsBooked (now (accounts .entry)) (now (counters .entry)) (now (pays .entry)) (listed (now (counts .entry)))) (now (accounts .entry)) ⌝ }
-    ensures { λ r. ⌜ now (counters .exit) ≡ cond (isGrouped r) (countersBooked (now (counters .entry)) (listed (now (counts .entry)))) (now (counters .entry)) ⌝ }
-    ensures { λ r. ⌜ now (pays .exit) ≡ cond (isGrouped r) (paysBooked (now (counters .entry)) (now (pays .entry)) (listed (now (counts .entry)))) (now (pays .entry)) ⌝ }
+    requires { ⌜ Holds (tables (now accounts) (now counters) (now pays)) ⌝ }
+    ensures { λ r. ⌜ outcome r (tables (now (accounts .exit)) (now (counters .exit)) (now (pays .exit))) ≡ held (groupAct (now (counts .entry))) (tables (now (accounts .entry)) (now (counters .entry)) (now (pays .entry))) ⌝ }
 {
     if !are_counts(counters, counts) {
         return Grouped::Refused(Refusal::Counts);
@@ -127,11 +121,8 @@ fn widened(counts: &[u16]) -> [u16; 64]
 
 // Books the counts if each member is covered then.
 fn try_book(accounts: &mut [i64], counters: &mut [u32], pays: &mut [u64], counts: &[u16]) -> Grouped
-    requires { ⌜ Counted (now accounts) (now counters) (now pays) (now counts) ⌝ }
-    ensures { λ r. ⌜ r ≡ answerGroup (countOf (now (counters .entry))) (houseOf (now (accounts .entry)) (now (counters .entry)) (now (pays .entry))) (listed (now (counts .entry))) (judgeCover (countOf (now (counters .entry))) (houseOf (now (accounts .entry)) (now (counters .entry)) (now (pays .entry))) (listed (now (counts .entry)))) ⌝ }
-    ensures { λ r. ⌜ now (accounts .exit) ≡ cond (isGrouped r) (accountsBooked (now (accounts .entry)) (now (counters .entry)) (now (pays .entry)) (listed (now (counts .entry)))) (now (accounts .entry)) ⌝ }
-    ensures { λ r. ⌜ now (counters .exit) ≡ cond (isGrouped r) (countersBooked (now (counters .entry)) (listed (now (counts .entry)))) (now (counters .entry)) ⌝ }
-    ensures { λ r. ⌜ now (pays .exit) ≡ cond (isGrouped r) (paysBooked (now (counters .entry)) (now (pays .entry)) (listed (now (counts .entry)))) (now (pays .entry)) ⌝ }
+    requires { ⌜ Counted (tables (now accounts) (now counters) (now pays)) (now counts) ⌝ }
+    ensures { λ r. ⌜ outcome r (tables (now (accounts .exit)) (now (counters .exit)) (now (pays .exit))) ≡ held (bookAct (listed (now (counts .entry)))) (tables (now (accounts .entry)) (now (counters .entry)) (now (pays .entry))) ⌝ }
 {
     let positions = booking::weigh(accounts, counters, pays, counts);
     if !booking::covered(&positions, accounts, counters) {

@@ -15,7 +15,7 @@ use Rattle.tables.proofs.Tests.{and-both}
 use Rattle.print.specs.Room.{leastRoom, hasRoom}
 use Rattle.night.specs.declared.Stage.{Stage}
 use Rattle.night.specs.declared.Stage.the-variants as G
-use Rattle.night.specs.Lines.{Tables}
+use Rattle.tables.specs.Layout.{Tables}
 use Rattle.sheet.specs.declared.State.{State}
 use Rattle.sheet.specs.declared.Turn.{Turn}
 use Rattle.sheet.specs.Sheet.{Night, isEnding, isOver, stopped, answered}

@@ -10,13 +10,13 @@ use lib.ListN.{length, take, drop, List·getD-append, length-append}
 use lib.Seq.{drop-cons, drop-at}
 use Rattle.rule.specs.Lists.{listing}
 use Rattle.rule.proofs.Lists.{length-listing, getD-listing}
-use Rattle.tables.specs.Layout.{countOf, moneyOf}
+use Rattle.tables.specs.Layout.{countOf, moneyOf, Tables}
 use Rattle.print.specs.declared.Says.{Says}
 use Rattle.print.specs.declared.Says.the-variants as S
 use Rattle.print.specs.Lines.{textOf}
 use Rattle.night.specs.declared.Stage.{Stage}
 use Rattle.night.specs.declared.Stage.the-variants as G
-use Rattle.night.specs.Lines.{Tables, balanceSays, endSays, endAt, endNext}
+use Rattle.night.specs.Lines.{balanceSays, endSays, endAt, endNext}
 use Rattle.night.specs.Stands.{Telling, Stands}
 use Rattle.sheet.specs.declared.State.{State}
 use Rattle.sheet.specs.Sheet.{textsOf, isEnding}
@@ -64,7 +64,7 @@ module _ (s : State) (t : Tables) (k : ℕ) (q : s .stage ≡ G.Ending k) where
   end-fewer h r e n = rw (e, q) (go (ltb k (countOf (t .counters))))
     where
       few : k ≤ 64
-      few = omega (arith, h .told, h .holds .few)
+      few = omega (arith, h .told, h .holds .counters .few)
 
       go : (b : Bool) → turnsLeft (cond b (G.Ending (k + 1)) G.Over) n < turnsLeft (G.Ending k) n
       go true = omega (arith, few)

@@ -9,14 +9,14 @@ use lib.Dec.{ltb}
 use lib.ListN.{length, take, drop, length-append, drop-of-length-le}
 use lib.Seq.{drop-drop, drop-length}
 use Rattle.rule.proofs.Lists.{length-listing}
-use Rattle.tables.specs.Layout.{countOf}
+use Rattle.tables.specs.Layout.{countOf, Tables}
 use Rattle.cut.specs.Lines.{Line}
 use Rattle.cut.specs.Chunks.{none, lineOf, Eaten, eatOf, feedOf, endBy}
 use Rattle.cut.proofs.Chunks.{feed-eaten, eaten-all}
 use Rattle.print.specs.declared.Says.{Says}
 use Rattle.night.specs.declared.Stage.{Stage}
 use Rattle.night.specs.declared.Stage.the-variants as G
-use Rattle.night.specs.Lines.{Tables, balanceSays, endSays}
+use Rattle.night.specs.Lines.{balanceSays, endSays}
 use Rattle.sheet.specs.Sheet.{Night, textsOf, restSays, told, finished, isEnding, isOver, stopped, answered, stepOf, closed}
 use Rattle.sheet.specs.Turns.{Desk, nextStage, endSaid, endTurn, eatenTo, eatTurn, turnOf, lastOf, lastTurn, closeTurn, comesTo, closesTo}
 

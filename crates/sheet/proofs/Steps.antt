@@ -13,7 +13,8 @@ use Rattle.print.specs.Lines.{textOf}
 use Rattle.night.specs.declared.Stage.{Stage}
 use Rattle.night.specs.declared.Stage.the-variants as G
 use Rattle.night.specs.declared.Does.{Does}
-use Rattle.night.specs.Lines.{Tables, did, refusal, doesOf}
+use Rattle.tables.specs.Layout.{Tables}
+use Rattle.night.specs.Lines.{did, refusal, doesOf}
 use Rattle.night.specs.Stands.{Stands, Read}
 use Rattle.night.proofs.Stages.{does-same}
 use Rattle.night.proofs.Kept.{Kept, does-kept}

@@ -9,7 +9,7 @@ use lib.ListN.{length, take, drop, take-append-drop, length-drop}
 use lib.Seq.{length-take-le}
 use Rattle.cut.specs.Lines.{mostBytes}
 use Rattle.night.specs.declared.Stage.{Stage}
-use Rattle.night.specs.Lines.{Tables}
+use Rattle.tables.specs.Layout.{Tables}
 use Rattle.sheet.specs.declared.State.{State}
 use Rattle.sheet.specs.declared.Turn.{Turn}
 use Rattle.sheet.specs.Stops.{Stops}

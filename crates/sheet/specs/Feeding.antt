@@ -11,7 +11,7 @@ use Rattle.cut.specs.declared.Cut.{Cut}
 use Rattle.cut.specs.Chunks.{stateOf}
 use Rattle.night.specs.declared.Stage.{Stage}
 use Rattle.night.specs.declared.Stage.the-variants as G
-use Rattle.night.specs.Lines.{Tables}
+use Rattle.tables.specs.Layout.{Tables}
 use Rattle.night.specs.Stands.{Stands}
 use Rattle.sheet.specs.declared.State.{State}
 use Rattle.sheet.specs.declared.Turn.{Turn}

@@ -18,7 +18,8 @@ use Rattle.night.specs.declared.Stage.{Stage}
 use Rattle.night.specs.declared.Stage.the-variants as G
 use Rattle.night.specs.declared.Said.{Said}
 use Rattle.night.specs.declared.Said.the-variants as D
-use Rattle.night.specs.Lines.{Tables, tables, Did, refusal, doesOf, endSays}
+use Rattle.tables.specs.Layout.{Tables, tables}
+use Rattle.night.specs.Lines.{Did, refusal, doesOf, endSays}
 
 -- the most lines of a day file
 abbrev pub mostLines : ℕ

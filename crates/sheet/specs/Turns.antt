@@ -9,7 +9,8 @@ use Rattle.cut.specs.Chunks.{Held, none, lineOf, Eaten, eatOf, Fed, feedOf, fin
 use Rattle.print.specs.Room.{hasRoom}
 use Rattle.night.specs.declared.Stage.{Stage}
 use Rattle.night.specs.declared.Stage.the-variants as G
-use Rattle.night.specs.Lines.{Tables, endNext}
+use Rattle.tables.specs.Layout.{Tables}
+use Rattle.night.specs.Lines.{endNext}
 use Rattle.sheet.specs.Sheet.{Night, textsOf, restSays, finished, isEnding, isOver, stopped, answered, stepOf, closed}
 
 -- between two turns: bytes to come, the night of which the end may have lines to say, and what is held of the next line

@@ -8,7 +8,7 @@ ghost use Prim.Native.Nat.{ℕ, _+_, _≤_, _<_};
 ghost use lib.ListN.{length};
 ghost use Rattle.print.specs.Room.{leastRoom};
 ghost use Rattle.night.specs.declared.Stage.the-variants.{Ending};
-ghost use Rattle.night.specs.Lines.{tables};
+ghost use Rattle.tables.specs.Layout.{tables};
 ghost use Rattle.sheet.specs.Sheet.{isEnding};
 ghost use Rattle.sheet.specs.Turns.{endSaid};
 ghost use Rattle.sheet.specs.Feeding.{nightOf, turnsLeft, Grown, Fit};

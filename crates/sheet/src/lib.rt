@@ -11,7 +11,7 @@ ghost use mathlib.Core.List.{[]};
 ghost use Prim.Native.Nat.{_≤_};
 ghost use lib.ListN.{length, drop};
 ghost use Rattle.cut.specs.Lines.{mostBytes};
-ghost use Rattle.night.specs.Lines.{tables};
+ghost use Rattle.tables.specs.Layout.{tables};
 ghost use Rattle.sheet.specs.Sheet.{isOver};
 ghost use Rattle.sheet.specs.Stops.{Stops};
 ghost use Rattle.sheet.specs.Turns.{turnOf, goesOn, closeTurn, closesOn};

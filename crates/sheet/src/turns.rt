@@ -13,7 +13,7 @@ ghost use Prim.Native.Nat.{_+_, _-_, _≤_, _<_};
 ghost use lib.ListN.{length, take, drop};
 ghost use Rattle.cut.specs.Lines.{mostBytes};
 ghost use Rattle.print.specs.Room.{leastRoom};
-ghost use Rattle.night.specs.Lines.{tables};
+ghost use Rattle.tables.specs.Layout.{tables};
 ghost use Rattle.sheet.specs.Sheet.{isEnding, isOver};
 ghost use Rattle.sheet.specs.Turns.{eatTurn, turnOf, lastOf, closeTurn};
 ghost use Rattle.sheet.specs.Feeding.{nightOf, deskOf, fresh, goesAt, closesAt, turnsLeft, Grown, Fit};

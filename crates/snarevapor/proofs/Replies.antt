@@ -9,12 +9,13 @@ use lib.IntN.{ℤ}
 use mir.Syntax.{w64}
 use mir.Val.{SFits, toZ, ofZ}
 use mir.Facts.{toZ-ofZ}
+use Rattle.tables.specs.Layout.{Tables}
+use Rattle.answers.specs.Outcome.{Outcome}
 use Rattle.tables.proofs.Tests.{and-both}
 use Rattle.words.specs.Le.{putAt}
 use Rattle.words.specs.Row.{putRow, plain}
-use Rattle.answers.specs.declared.Refusal.the-variants.{State}
 use Rattle.lists.specs.Bytes.{roomy}
-use Rattle.calls.specs.Reply.{Reply, refused, Stored, Replied}
+use Rattle.calls.specs.Reply.{onBytes, Told, Reply, replyOf, short, Stored, Replied}
 
 -- lent slices that are long enough have room for the tables,
 pub lent-tables : (n : ℕ) (b : Bool) → (roomy n && b) ≡ true → 22528 ≤ n
@@ -35,25 +36,39 @@ unfolding putRow
 told-signed t f e = rw (toZ-ofZ {w = w64} f) at e
 
 -- lent slices that are too short change nothing
-pub short-stored : {s : List ℕ} {b : Bool} (y : Reply) → b ≡ false → Stored (cond b y (refused s State)) s 1
-short-stored {s} {b} y e = subst (λ (b : Bool). Stored (cond b y (refused s State)) s 1) (sym e) (record { code = refl; tables = refl })
+pub short-stored : {s : List ℕ} {b : Bool} (y : Reply) → b ≡ false → Stored (cond b y (short s)) s 1
+short-stored {s} {b} y e = subst (λ (b : Bool). Stored (cond b y (short s)) s 1) (sym e) (record { code = refl; tables = refl })
 
 -- and tell nothing
-pub short : {s t : List ℕ} {b : Bool} (y : Reply) → b ≡ false → Replied (cond b y (refused s State)) t s t 1
-short {s} {t} {b} y e =
-    subst (λ (b : Bool). Replied (cond b y (refused s State)) t s t 1) (sym e) (record { code = refl; tables = refl; answer = sym (told-none t) })
+pub short-replied : {s t : List ℕ} {b : Bool} (y : Reply) → b ≡ false → Replied (cond b y (short s)) t s t 1
+short-replied {s} {t} {b} y e =
+    subst (λ (b : Bool). Replied (cond b y (short s)) t s t 1) (sym e) (record { code = refl; tables = refl; answer = sym (told-none t) })
+
+-- what was told and stored is what the reply says
+module _ (s : List ℕ) {s′ : List ℕ} {b : Bool} {y : Reply} {w : Told} {k : ℕ} (long : b ≡ true) (told : w ≡ y .told) (tables : s′ ≡ y .tables) (n : k ≡ w .code) where
+  -- of a call that tells nothing but its code,
+  pub stored-of : Stored (cond b y (short s)) s′ k
+  stored-of = subst (λ (b : Bool). Stored (cond b y (short s)) s′ k) (sym long) (record { code = n ∙ ap (λ (x : Told). x .code) told; tables = tables })
+
+  -- and of one that writes an answer
+  pub replied-of : {t t′ : List ℕ} → t′ ≡ putRow plain 8 t 0 (w .parts) → Replied (cond b y (short s)) t s′ t′ k
+  replied-of {t} {t′} a = subst (λ (b : Bool). Replied (cond b y (short s)) t s′ t′ k) (sym long)
+      (record { code = n ∙ ap (λ (x : Told). x .code) told; tables = tables; answer = a ∙ ap (λ (x : Told). putRow plain 8 t 0 (x .parts)) told })
 
 -- v, which the house answered, is u: so the reply is that of u
-module _ {D : Type 0} (F : D → Reply) {w v u : D} {b : Bool} (z : Reply) (long : b ≡ true) (answered : v ≡ w) (is : v ≡ u) where
-  reply-of : F u ≡ cond b (F w) z
-  reply-of = ap F (sym is ∙ answered) ∙ sym (ap (λ (b : Bool). cond b (F w) z) long)
+module _ {A : Type 0} (tell : A → Told) (f : Tables → Outcome A) (s : List ℕ) {b : Bool} {v u : A} {s′ : List ℕ} (long : b ≡ true) (did : (v, s′) ≡ onBytes f s) (is : v ≡ u) where
+  told-is : tell u ≡ replyOf tell f s .told
+  told-is = ap tell (sym is ∙ ap (λ (x : A × List ℕ). x .0) did)
 
-  -- of a call that tells nothing but its code
-  pub stored : {s′ : List ℕ} {k : ℕ} → s′ ≡ F v .tables → k ≡ F u .code → Stored (cond b (F w) z) s′ k
-  stored {s′} {k} e n =
-      subst (λ (y : Reply). Stored y s′ k) reply-of (record { code = n; tables = e ∙ ap (λ (d : D). F d .tables) is })
+  pub stored : {k : ℕ} → k ≡ tell u .code → Stored (cond b (replyOf tell f s) (short s)) s′ k
+  stored n = stored-of s long told-is (ap (λ (x : A × List ℕ). x .1) did) n
 
-  -- of a call that writes an answer
-  pub replied : {s′ t t′ : List ℕ} {k : ℕ} → s′ ≡ F v .tables → k ≡ F u .code → t′ ≡ putRow plain 8 t 0 (F u .parts) → Replied (cond b (F w) z) t s′ t′ k
-  replied {s′} {t} {t′} {k} e n a =
-      subst (λ (y : Reply). Replied y t s′ t′ k) reply-of (record { code = n; tables = e ∙ ap (λ (d : D). F d .tables) is; answer = a })
+  pub replied : {t t′ : List ℕ} {k : ℕ} → k ≡ tell u .code → t′ ≡ putRow plain 8 t 0 (tell u .parts) → Replied (cond b (replyOf tell f s) (short s)) t s′ t′ k
+  replied n a = replied-of s long told-is (ap (λ (x : A × List ℕ). x .1) did) n a
+
+-- a list that is written where the slices are long enough
+pub counts-long : {b : Bool} (x u : List ℕ) {u′ : List ℕ} → b ≡ true → u′ ≡ x → u′ ≡ cond b x u
+counts-long x u e q = rw e q
+
+pub counts-short : {b : Bool} (x u : List ℕ) → b ≡ false → u ≡ cond b x u
+counts-short x u e = rw e

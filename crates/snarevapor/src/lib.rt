@@ -1,12 +1,7 @@
 // Snarevapor for a host: each call on lent bytes, by a function for C. `include/snarevapor.h` is its manual.
+ghost use mathlib.Core.Path.{_≡_};
 ghost use Rattle.calls.specs.Reply.{Stored, Replied};
-ghost use Rattle.calls.specs.Open.{openReply};
-ghost use Rattle.calls.specs.Deposit.{depositReply};
-ghost use Rattle.calls.specs.Submit.{submitReply};
-ghost use Rattle.calls.specs.Release.{releaseReply};
-ghost use Rattle.calls.specs.Group.{groupReply};
-ghost use Rattle.lists.specs.Bytes.{lent};
-ghost use Rattle.calls.specs.Resolve.{Resolve};
+ghost use Rattle.calls.specs.Telling.{openReply, depositReply, submitReply, releaseReply, groupReply, resolveReply, resolveCounts};
 
 mod tell;
 
@@ -125,7 +120,8 @@ pub extern "C" fn snarevapor_group(tables: &mut [u8], counts: &[u8], answer: &mu
 // waiting, how many those are, and the lowest.
 #[no_mangle]
 pub extern "C" fn snarevapor_resolve(tables: &mut [u8], counts: &mut [u8], answer: &mut [u8]) -> u32
-    ensures { λ r. ⌜ Resolve (lent (now (tables .entry)) (now (answer .entry)) 48) (now (tables .entry)) (now (counts .entry)) (now (answer .entry)) (now (tables .exit)) (now (counts .exit)) (now (answer .exit)) r ⌝ }
+    ensures { λ r. ⌜ Replied (resolveReply (now (tables .entry)) (now (counts .entry)) (now (answer .entry))) (now (answer .entry)) (now (tables .exit)) (now (answer .exit)) r ⌝ }
+    ensures { λ r. ⌜ now (counts .exit) ≡ resolveCounts (now (tables .entry)) (now (counts .entry)) (now (answer .entry)) ⌝ }
 {
     if !lists::is_lent(tables.len(), answer.len(), 48) {
         return 1;

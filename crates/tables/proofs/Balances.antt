@@ -16,8 +16,8 @@ use Rattle.rule.specs.Ints.{up, down}
 use Rattle.rule.specs.House.{money}
 use Rattle.rule.proofs.Ints.{ints, plus, leZ-true, ≤ℤ-is}
 use Rattle.tables.specs.Sizes.{members, limit, most, highest}
-use Rattle.tables.specs.Layout.{countOf, balanceOf, lineOf, moneyOf}
-use Rattle.tables.specs.Holds.{Holds}
+use Rattle.tables.specs.Layout.{balanceOf, lineOf, moneyOf}
+use Rattle.tables.specs.Holds.{Accounts}
 use Rattle.tables.specs.State.{every, isZero, holderOk, accountAt}
 use Rattle.tables.specs.Needs.{Near, Bounded}
 use Rattle.tables.proofs.Tests.{and-both}
@@ -54,8 +54,8 @@ near-account true b l e = near-holder b l e
 near-account false b l e = near-zero b (and-both (isZero b) (isZero l) e .0)
 
 -- where each account is in order, no balance is further from zero than the highest
-pub accounts-bounded : (n : ℕ) (a : List ℤ) → 512 ≤ length a → every (accountAt n a) members ≡ true → Bounded members a
-accounts-bounded n a h e = record { few = omega arith; long = omega arith; near = λ i q. near-account (ltb i n) (balanceOf a i) (lineOf a i) (every-at (accountAt n a) members i e q) }
+pub seats-bounded : (n : ℕ) (a : List ℤ) → 512 ≤ length a → every (accountAt n a) members ≡ true → Bounded members a
+seats-bounded n a h e = record { few = omega arith; long = omega arith; near = λ i q. near-account (ltb i n) (balanceOf a i) (lineOf a i) (every-at (accountAt n a) members i e q) }
 
 -- ---- and so are their sums
 
@@ -92,10 +92,10 @@ low-of : (m : ℕ) (z : ℤ) → down z ≤ m + up z → down z ≤ m
 low-of m (pos n) h = omega arith
 low-of m (negsuc n) h = omega arith
 
-module _ {a : List ℤ} {c p : List ℕ} (h : Holds a c p) where
+module _ {n : ℕ} {a : List ℤ} (h : Accounts n a) where
   -- no balance of what holds document 01's list is below minus the highest line,
-  pub holds-low : (i : ℕ) → i < 64 → down (balanceOf a i) ≤ limit
-  holds-low i q = elim (decLt i (countOf c)) [
+  pub accounts-low : (i : ℕ) → i < 64 → down (balanceOf a i) ≤ limit
+  accounts-low i q = elim (decLt i n) [
     | yes l ↦
         let o = h .holders i l in
         let t1 = ≤ℤ-is (pos 0) (lineOf a i) (o .line) in
@@ -106,8 +106,16 @@ module _ {a : List ℤ} {c p : List ℕ} (h : Holds a c p) where
   ]
 
   -- and each is near zero
-  pub holds-near : (i : ℕ) → i < 64 → Near highest (balanceOf a i)
-  holds-near i q =
+  pub accounts-near : (i : ℕ) → i < 64 → Near highest (balanceOf a i)
+  accounts-near i q =
       let t1 = ≤ℤ-is (moneyOf a) (pos most) (h .sum) in
-      let t2 = holds-low i q in
-      near-of highest (balanceOf a i) (omega (arith, balance-high limit (balanceOf a) members i q holds-low)) (omega arith)
+      let t2 = accounts-low i q in
+      near-of highest (balanceOf a i) (omega (arith, balance-high limit (balanceOf a) members i q accounts-low)) (omega arith)
+
+  -- so that no sum of them wraps,
+  pub accounts-bounded : Bounded 64 a
+  accounts-bounded = record { few = omega arith; long = omega (arith, h .long); near = accounts-near }
+
+  -- and the sum of all fits an i64
+  pub money-fits : SFits w64 (moneyOf a)
+  money-fits = sum-fits accounts-bounded 64 (omega arith)

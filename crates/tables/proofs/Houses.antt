@@ -9,8 +9,6 @@ use lib.Dec.{eqb}
 use lib.IntN.{ℤ, pos}
 use lib.ListN.{length, getD}
 use lib.Seq.{length-take-le, getD-take}
-use mir.Syntax.{w64}
-use mir.Val.{SFits}
 use borrow.Author.Tests.{eqb-true, ne-eqb}
 use Rattle.rule.specs.Ints.{up}
 use Rattle.rule.specs.Kernel.{sum}
@@ -21,10 +19,8 @@ use Rattle.rule.specs.Table.{queueOf, Payers}
 use Rattle.rule.proofs.Ints.{eq-of, nonneg-is}
 use Rattle.rule.proofs.Sums.{sum-cong}
 use Rattle.rule.proofs.Table.{by-payers}
-use Rattle.tables.specs.Layout.{countOf, waitingOf, lastOf, settledOf, lineOf, moneyOf, wordsOf, houseOf}
+use Rattle.tables.specs.Layout.{Tables, membersIn, waitingIn, wordsIn, houseIn, lastOf, settledOf, lineOf}
 use Rattle.tables.specs.Holds.{Payment, Holds}
-use Rattle.tables.specs.Needs.{Bounded}
-use Rattle.tables.proofs.Balances.{holds-near, sum-fits}
 use Rattle.tables.proofs.Counting.{queue-short}
 
 -- ---- the queues of a table
@@ -51,68 +47,58 @@ total-one : (l : List ℕ) → total (λ w. 1) l ≡ length l
 total-one [] = refl
 total-one (w ∷ ws) = omega (arith, total-one ws)
 
-module _ {a : List ℤ} {c p : List ℕ} (h : Holds a c p) where
-  -- ---- money
-
-  -- no balance is far from zero,
-  pub holds-bounded : Bounded 64 a
-  holds-bounded = record { few = omega arith; long = omega (arith, h .long); near = holds-near h }
-
-  -- and the sum of all fits an i64
-  pub money-fits : SFits w64 (moneyOf a)
-  money-fits = sum-fits holds-bounded 64 (omega arith)
-
+module _ {T : Tables} (h : Holds T) where
   -- a line is never below zero
-  pub line-is : (i : ℕ) → i < 64 → lineOf a i ≡ pos (houseOf a c p .line i)
-  line-is i q = elim (decLt i (countOf c)) [
-    | yes l ↦ eq-of (lineOf a i) (pos (up (lineOf a i))) (omega (arith, nonneg-is (lineOf a i) (h .holders i l .line)))
-    | no l ↦ let e = h .no-line i (omega arith) q in rw e
+  pub line-is : (i : ℕ) → i < 64 → lineOf (T .accounts) i ≡ pos (houseIn T .line i)
+  line-is i q = elim (decLt i (membersIn T)) [
+    | yes l ↦ eq-of (lineOf (T .accounts) i) (pos (up (lineOf (T .accounts) i))) (omega (arith, nonneg-is (lineOf (T .accounts) i) (h .accounts .holders i l .line)))
+    | no l ↦ let e = h .accounts .no-line i (omega arith) q in rw e
   ]
 
   -- each member is covered
-  pub holds-sound : Sound (countOf c) (houseOf a c p)
-  holds-sound = record { covers = λ i l. rw (sym (line-is i (omega (arith, h .few)))) (h .holders i l .cover) }
+  pub holds-sound : Sound (membersIn T) (houseIn T)
+  holds-sound = record { covers = λ i l. rw (sym (line-is i (omega (arith, h .counters .few)))) (h .accounts .holders i l .cover) }
 
   -- ---- payments
 
-  waiting-long : length (wordsOf c p) ≡ waitingOf c
-  waiting-long = length-take-le (waitingOf c) p (omega (arith, h .room, h .deep))
+  waiting-long : length (wordsIn T) ≡ waitingIn T
+  waiting-long = length-take-le (waitingIn T) (T .pays) (omega (arith, h .counters .room, h .places .deep))
 
   -- each waiting payment is one
-  pub holds-payment : (k : ℕ) → k < length (wordsOf c p) → Payment (countOf c) (getD (wordsOf c p) k 0)
-  holds-payment k l = let q : k < waitingOf c = omega (arith, waiting-long) in rw (getD-take (waitingOf c) p k 0 q) (h .words k q)
+  pub holds-payment : (k : ℕ) → k < length (wordsIn T) → Payment (membersIn T) (getD (wordsIn T) k 0)
+  holds-payment k l = let q : k < waitingIn T = omega (arith, waiting-long) in rw (getD-take (waitingIn T) (T .pays) k 0 q) (h .places .words k q)
 
   -- each payer is a member
-  pub holds-payers : Payers (countOf c) (wordsOf c p)
+  pub holds-payers : Payers (membersIn T) (wordsIn T)
   holds-payers k l = holds-payment k l .payer
 
   -- each queue holds payments to other members
-  pub holds-proper : Proper (countOf c) (houseOf a c p)
+  pub holds-proper : Proper (membersIn T) (houseIn T)
   holds-proper = record {
     outgoing = λ i l. record {
-      to = λ k q. queue-each (Payment (countOf c)) i (wordsOf c p) holds-payment k q .0 .payee;
-      away = λ k q e. let f = queue-each (Payment (countOf c)) i (wordsOf c p) holds-payment k q in f .0 .other (f .1 ∙ sym e);
+      to = λ k q. queue-each (Payment (membersIn T)) i (wordsIn T) holds-payment k q .0 .payee;
+      away = λ k q e. let f = queue-each (Payment (membersIn T)) i (wordsIn T) holds-payment k q in f .0 .other (f .1 ∙ sym e);
     };
   }
 
   -- ---- counts
 
   -- who is no member has no queue
-  pub no-queue : (i : ℕ) → countOf c ≤ i → queueOf i (wordsOf c p) ≡ []
-  no-queue i l = queue-none (countOf c) i (wordsOf c p) l holds-payers
+  pub no-queue : (i : ℕ) → membersIn T ≤ i → queueOf i (wordsIn T) ≡ []
+  no-queue i l = queue-none (membersIn T) i (wordsIn T) l holds-payers
 
   -- of each member wait those that were accepted and not settled
-  pub waits-is : (i : ℕ) → i < 64 → waits (houseOf a c p) i ≡ lastOf c i - settledOf c i
-  waits-is i q = omega (arith, h .numbers i q)
+  pub waits-is : (i : ℕ) → i < 64 → waits (houseIn T) i ≡ lastOf (T .counters) i - settledOf (T .counters) i
+  waits-is i q = omega (arith, h .numbers .each i q)
 
   -- all queues together are what waits
-  pub waiting-sum : sum (countOf c) (waits (houseOf a c p)) ≡ waitingOf c
+  pub waiting-sum : sum (membersIn T) (waits (houseIn T)) ≡ waitingIn T
   waiting-sum =
-      sum-cong (countOf c) (waits (houseOf a c p)) (λ j. total (λ w. 1) (queueOf j (wordsOf c p))) (λ j l. sym (total-one (queueOf j (wordsOf c p))))
-      ∙ by-payers (countOf c) (λ w. 1) (wordsOf c p) holds-payers
-      ∙ total-one (wordsOf c p)
+      sum-cong (membersIn T) (waits (houseIn T)) (λ j. total (λ w. 1) (queueOf j (wordsIn T))) (λ j l. sym (total-one (queueOf j (wordsIn T))))
+      ∙ by-payers (membersIn T) (λ w. 1) (wordsIn T) holds-payers
+      ∙ total-one (wordsIn T)
       ∙ waiting-long
 
   -- and none of them is longer than the table
-  pub few-wait : (i : ℕ) → waits (houseOf a c p) i ≤ 2048
-  few-wait i = omega (arith, queue-short i (wordsOf c p), waiting-long, h .room)
+  pub few-wait : (i : ℕ) → waits (houseIn T) i ≤ 2048
+  few-wait i = omega (arith, queue-short i (wordsIn T), waiting-long, h .counters .room)

@@ -1,3 +1,4 @@
+pub mod Same
 pub mod Tests
 pub mod Every
 pub mod Filling

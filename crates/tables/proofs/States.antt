@@ -15,12 +15,12 @@ use Rattle.rule.proofs.Ints.{true-leZ}
 use Rattle.rule.specs.Payment.{payerOf, payeeOf, amountOf, flagsOf}
 use Rattle.rule.specs.Table.{queueOf}
 use Rattle.tables.specs.Sizes.{members, places, table, limit, most, highest}
-use Rattle.tables.specs.Layout.{countOf, waitingOf, lastOf, settledOf, balanceOf, lineOf, moneyOf, wordsOf}
-use Rattle.tables.specs.Holds.{Holder, Payment, Holds}
+use Rattle.tables.specs.Layout.{Tables, membersIn, waitingIn, countOf, waitingOf, lastOf, settledOf, balanceOf, lineOf, moneyOf, wordsOf}
+use Rattle.tables.specs.Holds.{Holder, Payment, Counters, Accounts, Places, Numbers, Holds}
 use Rattle.tables.specs.State.{every, isZero, holderOk, accountAt, spareAt, accountsOk, zeroAt, countersOk, wordOk, placeAt, placesOk, queueAt, queuesOk, sized, isState}
 use Rattle.tables.proofs.Tests.{and-both, and-of, le-true, true-le, zero-true, true-zero}
 use Rattle.tables.proofs.Every.{every-at, every-of}
-use Rattle.tables.proofs.Balances.{holds-near}
+use Rattle.tables.proofs.Balances.{accounts-near}
 
 -- ---- a state holds the list
 
@@ -48,61 +48,74 @@ payment-is n w e =
       small = leb-true (amountOf w) limit (e5 .1);
     }
 
--- what the test of the counters finds
-pub record Counters (c : List ℕ) : Type 0 where
-  pub one : 1 ≤ countOf c
-  pub few : countOf c ≤ 64
-  pub room : waitingOf c ≤ 2048
-  pub spare : every (zeroAt c 2) 62 ≡ true
-  pub later : every (zeroAt c 192) 320 ≡ true
-
-pub counters-are : (c : List ℕ) → countersOk c ≡ true → Counters c
+pub counters-are : (c : List ℕ) → leb table (length c) ≡ true → countersOk c ≡ true → Counters c
 unfolding countersOk
-counters-are c e =
+counters-are c l e =
     let e1 = and-both (leb 1 (countOf c)) _ e in
     let e2 = and-both (leb (countOf c) members) _ (e1 .1) in
     let e3 = and-both (leb (waitingOf c) places) _ (e2 .1) in
     let e4 = and-both (every (zeroAt c 2) 62) (every (zeroAt c 192) 320) (e3 .1) in
-    record { one = leb-true 1 (countOf c) (e1 .0); few = leb-true (countOf c) 64 (e2 .0); room = leb-true (waitingOf c) 2048 (e3 .0); spare = e4 .0; later = e4 .1 }
-
--- lent tables that pass the test hold document 01's list
-pub state-holds : (a : List ℤ) (c p : List ℕ) → isState a c p ≡ true → Holds a c p
-unfolding isState accountsOk placesOk queuesOk
-state-holds a c p e =
-    let e1 = and-both (sized a c p) _ e in
-    let z1 = and-both (leb table (length a)) _ (e1 .0) in
-    let z2 = and-both (leb table (length c)) (leb places (length p)) (z1 .1) in
-    let e2 = and-both (countersOk c) _ (e1 .1) in
-    let e3 = and-both (accountsOk (countOf c) a) _ (e2 .1) in
-    let a1 = and-both (every (accountAt (countOf c) a) members) _ (e3 .0) in
-    let a2 = and-both (every (spareAt a) 384) (leZ (moneyOf a) (pos most)) (a1 .1) in
-    let e4 = and-both (placesOk (countOf c) (waitingOf c) p) (queuesOk c p) (e3 .1) in
-    let k = counters-are c (e2 .0) in
     record {
-      long = leb-true 512 (length a) (z1 .0);
-      broad = leb-true 512 (length c) (z2 .0);
-      deep = leb-true 2048 (length p) (z2 .1);
-      one = k .one;
-      few = k .few;
-      room = k .room;
-      holders = λ i h. holder-is (balanceOf a i) (lineOf a i) (rw (lt-ltb i (countOf c) h) at (every-at (accountAt (countOf c) a) members i (a1 .0) (omega (arith, k .few))));
+      broad = leb-true 512 (length c) l;
+      one = leb-true 1 (countOf c) (e1 .0);
+      few = leb-true (countOf c) 64 (e2 .0);
+      room = leb-true (waitingOf c) 2048 (e3 .0);
+      spare = λ j h. eqb-true (getD c (2 + j) 0) 0 (every-at (zeroAt c 2) 62 j (e4 .0) h);
+      later = λ j h. eqb-true (getD c (192 + j) 0) 0 (every-at (zeroAt c 192) 320 j (e4 .1) h);
+    }
+
+accounts-are : (n : ℕ) (a : List ℤ) → n ≤ 64 → leb table (length a) ≡ true → accountsOk n a ≡ true → Accounts n a
+unfolding accountsOk
+accounts-are n a few l e =
+    let a1 = and-both (every (accountAt n a) members) _ e in
+    let a2 = and-both (every (spareAt a) 384) (leZ (moneyOf a) (pos most)) (a1 .1) in
+    record {
+      long = leb-true 512 (length a) l;
+      holders = λ i h. holder-is (balanceOf a i) (lineOf a i) (rw (lt-ltb i n h) at (every-at (accountAt n a) members i (a1 .0) (omega arith)));
       sum = le-true (moneyOf a) (pos most) (a2 .1);
-      words = λ j h. payment-is (countOf c) (getD p j 0) (rw (lt-ltb j (waitingOf c) h) at (every-at (placeAt (countOf c) (waitingOf c) p) places j (e4 .0) (omega (arith, k .room))));
-      numbers = λ i h. eqb-true (settledOf c i + length (queueOf i (wordsOf c p))) (lastOf c i) (numbers i (every-at (queueAt c p) members i (e4 .1) h) .0);
-      no-balance = λ i l h. zero-true (balanceOf a i) (unused i (rw (le-ltb i (countOf c) l) at (every-at (accountAt (countOf c) a) members i (a1 .0) h)) .0);
-      no-line = λ i l h. zero-true (lineOf a i) (unused i (rw (le-ltb i (countOf c) l) at (every-at (accountAt (countOf c) a) members i (a1 .0) h)) .1);
-      no-number = λ i l h. eqb-true (lastOf c i) 0 (rw (le-ltb i (countOf c) l) at (numbers i (every-at (queueAt c p) members i (e4 .1) h) .1));
-      no-payment = λ j l h. eqb-true (getD p j 0) 0 (rw (le-ltb j (waitingOf c) l) at (every-at (placeAt (countOf c) (waitingOf c) p) places j (e4 .0) h));
-      spare-accounts = λ j h. zero-true (getD a (128 + j) (pos 0)) (every-at (spareAt a) 384 j (a2 .0) h);
-      spare-counters = λ j h. eqb-true (getD c (2 + j) 0) 0 (every-at (zeroAt c 2) 62 j (k .spare) h);
-      later-counters = λ j h. eqb-true (getD c (192 + j) 0) 0 (every-at (zeroAt c 192) 320 j (k .later) h);
+      no-balance = λ i l h. zero-true (balanceOf a i) (unused i (rw (le-ltb i n l) at (every-at (accountAt n a) members i (a1 .0) h)) .0);
+      no-line = λ i l h. zero-true (lineOf a i) (unused i (rw (le-ltb i n l) at (every-at (accountAt n a) members i (a1 .0) h)) .1);
+      spare = λ j h. zero-true (getD a (128 + j) (pos 0)) (every-at (spareAt a) 384 j (a2 .0) h);
     }
   where
     unused : (i : ℕ) → (isZero (balanceOf a i) && isZero (lineOf a i)) ≡ true → (isZero (balanceOf a i) ≡ true) × (isZero (lineOf a i) ≡ true)
     unused i = and-both (isZero (balanceOf a i)) (isZero (lineOf a i))
 
-    numbers : (i : ℕ) → queueAt c p i ≡ true → (eqb (settledOf c i + length (queueOf i (wordsOf c p))) (lastOf c i) ≡ true) × (cond (ltb i (countOf c)) true (eqb (lastOf c i) 0) ≡ true)
-    numbers i = and-both (eqb (settledOf c i + length (queueOf i (wordsOf c p))) (lastOf c i)) (cond (ltb i (countOf c)) true (eqb (lastOf c i) 0))
+places-are : (n w : ℕ) (p : List ℕ) → w ≤ 2048 → leb places (length p) ≡ true → placesOk n w p ≡ true → Places n w p
+unfolding placesOk
+places-are n w p room l e = record {
+  deep = leb-true 2048 (length p) l;
+  words = λ j h. payment-is n (getD p j 0) (rw (lt-ltb j w h) at (every-at (placeAt n w p) places j e (omega arith)));
+  no-payment = λ j l h. eqb-true (getD p j 0) 0 (rw (le-ltb j w l) at (every-at (placeAt n w p) places j e h));
+}
+
+numbers-are : (c p : List ℕ) → queuesOk c p ≡ true → Numbers c p
+unfolding queuesOk
+numbers-are c p e = record {
+  each = λ i h. eqb-true (settledOf c i + length (queueOf i (wordsOf c p))) (lastOf c i) (both i (every-at (queueAt c p) members i e h) .0);
+  no-number = λ i l h. eqb-true (lastOf c i) 0 (rw (le-ltb i (countOf c) l) at (both i (every-at (queueAt c p) members i e h) .1));
+}
+  where
+    both : (i : ℕ) → queueAt c p i ≡ true → (eqb (settledOf c i + length (queueOf i (wordsOf c p))) (lastOf c i) ≡ true) × (cond (ltb i (countOf c)) true (eqb (lastOf c i) 0) ≡ true)
+    both i = and-both (eqb (settledOf c i + length (queueOf i (wordsOf c p))) (lastOf c i)) (cond (ltb i (countOf c)) true (eqb (lastOf c i) 0))
+
+-- lent tables that pass the test hold document 01's list
+pub state-holds : {T : Tables} → isState T ≡ true → Holds T
+unfolding isState
+state-holds {T} e =
+    let e1 = and-both (sized (T .accounts) (T .counters) (T .pays)) _ e in
+    let z1 = and-both (leb table (length (T .accounts))) _ (e1 .0) in
+    let z2 = and-both (leb table (length (T .counters))) (leb places (length (T .pays))) (z1 .1) in
+    let e2 = and-both (countersOk (T .counters)) _ (e1 .1) in
+    let e3 = and-both (accountsOk (membersIn T) (T .accounts)) _ (e2 .1) in
+    let e4 = and-both (placesOk (membersIn T) (waitingIn T) (T .pays)) (queuesOk (T .counters) (T .pays)) (e3 .1) in
+    let k = counters-are (T .counters) (z2 .0) (e2 .0) in
+    record {
+      counters = k;
+      accounts = accounts-are (membersIn T) (T .accounts) (k .few) (z1 .0) (e3 .0);
+      places = places-are (membersIn T) (waitingIn T) (T .pays) (k .room) (z2 .1) (e4 .0);
+      numbers = numbers-are (T .counters) (T .pays) (e4 .1);
+    }
 
 -- ---- what holds the list is a state
 
@@ -119,43 +132,48 @@ payment-of n w h = rw (
   le-leb (amountOf w) limit (h .small),
 )
 
-module _ {a : List ℤ} {c p : List ℕ} (h : Holds a c p) where
+-- each list in order passes its test
+module _ {n : ℕ} {a : List ℤ} (h : Accounts n a) where
   high : (i : ℕ) → i < 64 → leZ (balanceOf a i) (pos highest) ≡ true
-  high i q = let n = holds-near h i q in true-leZ (balanceOf a i) (pos highest) (omega arith)
+  high i q = let n = accounts-near h i q in true-leZ (balanceOf a i) (pos highest) (omega arith)
 
-  account : (i : ℕ) → i < 64 → accountAt (countOf c) a i ≡ true
-  account i q = elim (decLt i (countOf c)) [
-    | yes l ↦ rw (lt-ltb i (countOf c) l) (holder-of (balanceOf a i) (lineOf a i) (high i q) (h .holders i l))
-    | no l ↦ rw (le-ltb i (countOf c) (omega arith)) (and-of (true-zero (h .no-balance i (omega arith) q)) (true-zero (h .no-line i (omega arith) q)))
+  account : (i : ℕ) → i < 64 → accountAt n a i ≡ true
+  account i q = elim (decLt i n) [
+    | yes l ↦ rw (lt-ltb i n l) (holder-of (balanceOf a i) (lineOf a i) (high i q) (h .holders i l))
+    | no l ↦ rw (le-ltb i n (omega arith)) (and-of (true-zero (h .no-balance i (omega arith) q)) (true-zero (h .no-line i (omega arith) q)))
   ]
 
-  place : (k : ℕ) → k < 2048 → placeAt (countOf c) (waitingOf c) p k ≡ true
-  place k q = elim (decLt k (waitingOf c)) [
-    | yes l ↦ rw (lt-ltb k (waitingOf c) l) (payment-of (countOf c) (getD p k 0) (h .words k l))
-    | no l ↦ rw (le-ltb k (waitingOf c) (omega arith)) (eq-eqb (getD p k 0) 0 (h .no-payment k (omega arith) q))
-  ]
+  accounts-of : accountsOk n a ≡ true
+  unfolding accountsOk
+  accounts-of = and-of (every-of (accountAt n a) 64 account) (and-of (every-of (spareAt a) 384 (λ k q. true-zero (h .spare k q))) (true-le (moneyOf a) (pos most) (h .sum)))
 
-  queue : (i : ℕ) → i < 64 → queueAt c p i ≡ true
-  queue i q = and-of (eq-eqb (settledOf c i + length (queueOf i (wordsOf c p))) (lastOf c i) (h .numbers i q)) (elim (decLt i (countOf c)) [
-    | yes l ↦ rw (lt-ltb i (countOf c) l)
-    | no l ↦ rw (le-ltb i (countOf c) (omega arith)) (eq-eqb (lastOf c i) 0 (h .no-number i (omega arith) q))
-  ])
+places-of : {n w : ℕ} {p : List ℕ} → Places n w p → placesOk n w p ≡ true
+unfolding placesOk
+places-of {n} {w} {p} h = every-of (placeAt n w p) 2048 (λ k q. elim (decLt k w) [
+  | yes l ↦ rw (lt-ltb k w l) (payment-of n (getD p k 0) (h .words k l))
+  | no l ↦ rw (le-ltb k w (omega arith)) (eq-eqb (getD p k 0) 0 (h .no-payment k (omega arith) q))
+])
 
-  counters : countersOk c ≡ true
-  unfolding countersOk
-  counters = rw (
-    le-leb 1 (countOf c) (h .one),
-    le-leb (countOf c) 64 (h .few),
-    le-leb (waitingOf c) 2048 (h .room),
-    every-of (zeroAt c 2) 62 (λ k q. eq-eqb (getD c (2 + k) 0) 0 (h .spare-counters k q)),
-    every-of (zeroAt c 192) 320 (λ k q. eq-eqb (getD c (192 + k) 0) 0 (h .later-counters k q)),
-  )
+numbers-of : {c p : List ℕ} → Numbers c p → queuesOk c p ≡ true
+unfolding queuesOk
+numbers-of {c} {p} h = every-of (queueAt c p) 64 (λ i q. and-of (eq-eqb (settledOf c i + length (queueOf i (wordsOf c p))) (lastOf c i) (h .each i q)) (elim (decLt i (countOf c)) [
+  | yes l ↦ rw (lt-ltb i (countOf c) l)
+  | no l ↦ rw (le-ltb i (countOf c) (omega arith)) (eq-eqb (lastOf c i) 0 (h .no-number i (omega arith) q))
+]))
 
-  -- lent tables that hold document 01's list pass the test
-  pub holds-state : isState a c p ≡ true
-  unfolding isState accountsOk placesOk queuesOk
-  holds-state =
-      and-of (and-of (le-leb 512 (length a) (h .long)) (and-of (le-leb 512 (length c) (h .broad)) (le-leb 2048 (length p) (h .deep))))
-      (and-of counters
-      (and-of (and-of (every-of (accountAt (countOf c) a) 64 account) (and-of (every-of (spareAt a) 384 (λ k q. true-zero (h .spare-accounts k q))) (true-le (moneyOf a) (pos most) (h .sum))))
-      (and-of (every-of (placeAt (countOf c) (waitingOf c) p) 2048 place) (every-of (queueAt c p) 64 queue))))
+counters-of : {c : List ℕ} → Counters c → countersOk c ≡ true
+unfolding countersOk
+counters-of {c} h = rw (
+  le-leb 1 (countOf c) (h .one),
+  le-leb (countOf c) 64 (h .few),
+  le-leb (waitingOf c) 2048 (h .room),
+  every-of (zeroAt c 2) 62 (λ k q. eq-eqb (getD c (2 + k) 0) 0 (h .spare k q)),
+  every-of (zeroAt c 192) 320 (λ k q. eq-eqb (getD c (192 + k) 0) 0 (h .later k q)),
+)
+
+-- lent tables that hold document 01's list pass the test
+pub holds-state : {T : Tables} → Holds T → isState T ≡ true
+unfolding isState
+holds-state {T} h =
+    and-of (and-of (le-leb 512 (length (T .accounts)) (h .accounts .long)) (and-of (le-leb 512 (length (T .counters)) (h .counters .broad)) (le-leb 2048 (length (T .pays)) (h .places .deep))))
+    (and-of (counters-of (h .counters)) (and-of (accounts-of (h .accounts)) (and-of (places-of (h .places)) (numbers-of (h .numbers)))))

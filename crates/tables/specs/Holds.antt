@@ -1,4 +1,4 @@
--- A state, by document 01's list: what the lent lists a (accounts), c (counters) and p (places) hold.
+-- A state, by document 01's list: what the lent lists hold, list by list.
 use mathlib.Core.Path.{_≡_}
 use mathlib.Core.Logic.{_≢_}
 use mathlib.Core.List.{List}
@@ -9,7 +9,7 @@ use lib.ListN.{length, getD}
 use Rattle.rule.specs.Payment.{payerOf, payeeOf, amountOf, flagsOf}
 use Rattle.rule.specs.Table.{queueOf}
 use Rattle.tables.specs.Sizes.{limit, most}
-use Rattle.tables.specs.Layout.{countOf, waitingOf, lastOf, settledOf, balanceOf, lineOf, moneyOf, wordsOf}
+use Rattle.tables.specs.Layout.{Tables, membersIn, waitingIn, countOf, waitingOf, lastOf, settledOf, balanceOf, lineOf, moneyOf, wordsOf}
 
 -- a member's balance b and line l: the line is 0 to 10^12, and balance + line >= 0
 pub record Holder (b l : ℤ) : Type 0 where
@@ -26,37 +26,38 @@ pub record Payment (n w : ℕ) : Type 0 where
   pub some : 1 ≤ amountOf w
   pub small : amountOf w ≤ limit
 
-pub record Holds (a : List ℤ) (c p : List ℕ) : Type 0 where
-  -- the lists are long enough
-  pub long : 512 ≤ length a
+-- 1 to 64 members, at most 2,048 payments wait, and the spare counters are 0
+pub record Counters (c : List ℕ) : Type 0 where
   pub broad : 512 ≤ length c
-  pub deep : 2048 ≤ length p
-  -- 1 to 64 members, and at most 2,048 payments wait
   pub one : 1 ≤ countOf c
   pub few : countOf c ≤ 64
   pub room : waitingOf c ≤ 2048
-  -- each member's balance and line are in order, and the sum of all balances is at most 10^15
-  pub holders : (i : ℕ) → i < countOf c → Holder (balanceOf a i) (lineOf a i)
+  pub spare : (k : ℕ) → k < 62 → getD c (2 + k) 0 ≡ 0
+  pub later : (k : ℕ) → k < 320 → getD c (192 + k) 0 ≡ 0
+
+-- each of the n members' balance and line are in order, the sum of all balances is at most 10^15, and unused accounts are 0
+pub record Accounts (n : ℕ) (a : List ℤ) : Type 0 where
+  pub long : 512 ≤ length a
+  pub holders : (i : ℕ) → i < n → Holder (balanceOf a i) (lineOf a i)
   pub sum : moneyOf a ≤ℤ pos most
-  -- the waiting payments stand first, without a gap
-  pub words : (k : ℕ) → k < waitingOf c → Payment (countOf c) (getD p k 0)
-  -- of each payer's numbers the waiting ones are the last few
-  pub numbers : (i : ℕ) → i < 64 → settledOf c i + length (queueOf i (wordsOf c p)) ≡ lastOf c i
-  -- an unused account, counter or place is 0
-  pub no-balance : (i : ℕ) → countOf c ≤ i → i < 64 → balanceOf a i ≡ pos 0
-  pub no-line : (i : ℕ) → countOf c ≤ i → i < 64 → lineOf a i ≡ pos 0
+  pub no-balance : (i : ℕ) → n ≤ i → i < 64 → balanceOf a i ≡ pos 0
+  pub no-line : (i : ℕ) → n ≤ i → i < 64 → lineOf a i ≡ pos 0
+  pub spare : (k : ℕ) → k < 384 → getD a (128 + k) (pos 0) ≡ pos 0
+
+-- the waiting payments stand first, without a gap, and every later place is 0
+pub record Places (n waiting : ℕ) (p : List ℕ) : Type 0 where
+  pub deep : 2048 ≤ length p
+  pub words : (k : ℕ) → k < waiting → Payment n (getD p k 0)
+  pub no-payment : (k : ℕ) → waiting ≤ k → k < 2048 → getD p k 0 ≡ 0
+
+-- of each payer's numbers the waiting ones are the last few, and who is no member gave none
+pub record Numbers (c p : List ℕ) : Type 0 where
+  pub each : (i : ℕ) → i < 64 → settledOf c i + length (queueOf i (wordsOf c p)) ≡ lastOf c i
   pub no-number : (i : ℕ) → countOf c ≤ i → i < 64 → lastOf c i ≡ 0
-  pub no-payment : (k : ℕ) → waitingOf c ≤ k → k < 2048 → getD p k 0 ≡ 0
-  pub spare-accounts : (k : ℕ) → k < 384 → getD a (128 + k) (pos 0) ≡ pos 0
-  pub spare-counters : (k : ℕ) → k < 62 → getD c (2 + k) 0 ≡ 0
-  pub later-counters : (k : ℕ) → k < 320 → getD c (192 + k) 0 ≡ 0
 
--- a and c are the accounts and the counters of a state
-pub record Accounts (a : List ℤ) (c : List ℕ) : Type 0 where
-  pub pays : List ℕ
-  pub holds : Holds a c pays
-
--- c and p are the counters and the places of a state
-pub record Queues (c p : List ℕ) : Type 0 where
-  pub accounts : List ℤ
-  pub holds : Holds accounts c p
+-- the tables hold a state: each list by itself is in order, and the counters fit the places
+pub record Holds (T : Tables) : Type 0 where
+  pub counters : Counters (T .counters)
+  pub accounts : Accounts (membersIn T) (T .accounts)
+  pub places : Places (membersIn T) (waitingIn T) (T .pays)
+  pub numbers : Numbers (T .counters) (T .pays)

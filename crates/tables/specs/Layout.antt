@@ -38,6 +38,27 @@ wordsOf c p = take (waitingOf c) p
 abbrev pub moneyOf : List ℤ → ℤ
 moneyOf a = money members (balanceOf a)
 
+-- the three lent lists together
+pub record Tables : Type 0 where
+  pub accounts : List ℤ
+  pub counters : List ℕ
+  pub pays : List ℕ
+
+abbrev pub tables : List ℤ → List ℕ → List ℕ → Tables
+tables a c p = record { accounts = a; counters = c; pays = p }
+
+abbrev pub membersIn : Tables → ℕ
+membersIn T = countOf (T .counters)
+
+abbrev pub waitingIn : Tables → ℕ
+waitingIn T = waitingOf (T .counters)
+
+abbrev pub wordsIn : Tables → List ℕ
+wordsIn T = wordsOf (T .counters) (T .pays)
+
 -- the house that the lists hold, as the rule speaks of it
 abbrev pub houseOf : List ℤ → List ℕ → List ℕ → House
 houseOf a c p = record { line = λ i. up (lineOf a i); balance = balanceOf a; queue = λ i. queueOf i (wordsOf c p) }
+
+abbrev pub houseIn : Tables → House
+houseIn T = houseOf (T .accounts) (T .counters) (T .pays)

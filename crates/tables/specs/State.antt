@@ -9,7 +9,7 @@ use lib.ListN.{length, getD}
 use Rattle.rule.specs.Payment.{payerOf, payeeOf, amountOf, flagsOf}
 use Rattle.rule.specs.Table.{queueOf}
 use Rattle.tables.specs.Sizes.{members, places, table, limit, most, highest}
-use Rattle.tables.specs.Layout.{countOf, waitingOf, lastOf, settledOf, balanceOf, lineOf, moneyOf, wordsOf}
+use Rattle.tables.specs.Layout.{Tables, membersIn, waitingIn, countOf, waitingOf, lastOf, settledOf, balanceOf, lineOf, moneyOf, wordsOf}
 
 -- f holds of each number below n
 unfoldable pub every : (ℕ → Bool) → ℕ → Bool
@@ -88,5 +88,9 @@ queuesOk c p = every (queueAt c p) members
 abbrev pub sized : List ℤ → List ℕ → List ℕ → Bool
 sized a c p = leb table (length a) && (leb table (length c) && leb places (length p))
 
-unfoldable pub isState : List ℤ → List ℕ → List ℕ → Bool
-isState a c p = sized a c p && (countersOk c && (accountsOk (countOf c) a && (placesOk (countOf c) (waitingOf c) p && queuesOk c p)))
+unfoldable pub isState : Tables → Bool
+isState T =
+    sized (T .accounts) (T .counters) (T .pays)
+    && (countersOk (T .counters)
+    && (accountsOk (membersIn T) (T .accounts)
+    && (placesOk (membersIn T) (waitingIn T) (T .pays) && queuesOk (T .counters) (T .pays))))

@@ -9,13 +9,13 @@ ghost use Prim.Native.Nat.{ℕ, _+_, _<_, _≤_};
 ghost use lib.ListN.{length, getD, take};
 ghost use Rattle.rule.specs.House.{money};
 ghost use Rattle.rule.specs.Table.{queueOf};
-ghost use Rattle.tables.specs.Layout.{waitingOf, balanceOf};
+ghost use Rattle.tables.specs.Layout.{tables, waitingOf, balanceOf};
 ghost use Rattle.tables.specs.State.{every, wordOk, isZero, holderOk, accountOk, accountAt, spareAt, accountsOk, zeroAt, countersOk, placeOk, placesOk, queueOk, queuesOk, isState};
 ghost use Rattle.tables.specs.Needs.{Bounded};
 
 // The lent tables hold a state.
 pub fn is_state(accounts: &[i64], counters: &[u32], pays: &[u64]) -> bool
-    ensures { λ r. ⌜ r ≡ isState (now (accounts .entry)) (now (counters .entry)) (now (pays .entry)) ⌝ }
+    ensures { λ r. ⌜ r ≡ isState (tables (now (accounts .entry)) (now (counters .entry)) (now (pays .entry))) ⌝ }
 {
     if accounts.len() < House::TABLE {
         return false;

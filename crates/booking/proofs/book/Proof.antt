@@ -3,7 +3,8 @@ use borrow.Author.Needs.{needs}
 use mathlib.Core.Path.{ap, _∙_}
 use native.Mathlib.Omega.{arith}
 use lib.ListN.{length}
-use Rattle.booking.specs.Booking.{listed}
+use Rattle.tables.proofs.Same.{tables-same}
+use Rattle.booking.specs.Booking.{listed, bookedIn}
 use Rattle.booking.proofs.Booked.{holds-words, closed-booked, sum-sent, countable, positions-booked}
 use Rattle.booking.proofs.book.Statement.{statement}
 use Rattle.booking.proofs.book.Tie as tie
@@ -43,18 +44,16 @@ same-length-3 : tie.Need-same-length-3
 same-length-3 c = search needs
 
 returns : tie.Need-returns
+unfolding bookedIn
 returns c =
     let u = c .before .before .before .before .before .before .before .before .before .before in
     let s = u .before .before .before .before .before .before .before .before .before in
     let h = s .pre .0 .holds in (
-      c .before .before .before .before .before .store .ensures ∙ positions-booked h (s .pre .1),
-      (
-        c .before .before .count-off .ensures,
-        (
-          rw (u .close-up .ensures .0, u .before .before .before .before .before .copied .ensures, u .before .before .wide .ensures) (closed-booked h (listed (s .args .counts .now))),
-          rw (u .close-up .ensures .1, u .before .before .before .before .before .copied .ensures, u .before .before .wide .ensures) (sum-sent h (listed (s .args .counts .now))),
-        ),
-      ),
+      tables-same
+          (c .before .before .before .before .before .store .ensures ∙ positions-booked h (s .pre .1))
+          (c .before .before .count-off .ensures)
+          (rw (u .close-up .ensures .0, u .before .before .before .before .before .copied .ensures, u .before .before .wide .ensures) (closed-booked h (listed (s .args .counts .now)))),
+      rw (u .close-up .ensures .1, u .before .before .before .before .before .copied .ensures, u .before .before .wide .ensures) (sum-sent h (listed (s .args .counts .now))),
     )
 
 pub book-spec : {M : Type 1} → statement M

@@ -21,7 +21,7 @@ abbrev μ-loop : tie.MeasureT-loop
 μ-loop positions accounts counters n i₀ i = n - i
 
 shared-slice-read-wide : tie.Need-shared-slice-read-wide Inv-loop μ-loop
-shared-slice-read-wide c = omega (arith, c .before .before .pre .0 .holds .broad)
+shared-slice-read-wide c = omega (arith, c .before .before .pre .0 .0 .broad)
 
 wide-requires : tie.Need-wide-requires Inv-loop μ-loop
 wide-requires c κs = search needs
@@ -33,7 +33,7 @@ member : (c : tie.In-loop Inv-loop μ-loop) → c .before .loop .i < countOf (c 
 member c = omega arith
 
 seat : (c : tie.In-loop Inv-loop μ-loop) → c .before .loop .i < 64
-seat c = omega (arith, member c, c .before .before .before .before .before .pre .0 .holds .few)
+seat c = omega (arith, member c, c .before .before .before .before .before .pre .0 .0 .few)
 
 mul-is-short : tie.Need-mul-is-short Inv-loop μ-loop
 mul-is-short c = omega (arith, seat c)
@@ -48,12 +48,12 @@ mul-is-short-2 : tie.Need-mul-is-short-2 Inv-loop μ-loop
 mul-is-short-2 c = omega (arith, seat (c .before))
 
 shared-slice-copy-out-is-short-2 : tie.Need-shared-slice-copy-out-is-short-2 Inv-loop μ-loop
-shared-slice-copy-out-is-short-2 c = omega (arith, seat (c .before), c .before .before .before .before .before .before .pre .0 .holds .long)
+shared-slice-copy-out-is-short-2 c = omega (arith, seat (c .before), c .before .before .before .before .before .before .pre .0 .1 .long)
 
 is-short-requires : tie.Need-is-short-requires Inv-loop μ-loop
 is-short-requires c κs =
     let g = c .is-short-arg2 .given in
-    simp plain (c .before .before .before .before .before .before .before .pre .0 .holds .holders (c .before .before .before .loop .i) (member (c .before .before)) .line)
+    simp plain (c .before .before .before .before .before .before .before .pre .0 .1 .holders (c .before .before .before .loop .i) (member (c .before .before)) .line)
 
 -- the answer is the test of this member's position and line
 test : (c : tie.After-is-short Inv-loop μ-loop) → c .is-short .result

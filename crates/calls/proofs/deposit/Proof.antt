@@ -1,8 +1,9 @@
 -- `calls::deposit` meets its contract: no loop; what the house did to the lists is what is put back.
-use mathlib.Core.Path.{sym, _∙_, refl}
-use mathlib.Core.Bool.{true, false}
-use Rattle.calls.proofs.Runs.{deposit-runs}
 use borrow.Author.Needs.{needs}
+use Rattle.tables.proofs.Same.{tables-same}
+use Rattle.answers.specs.Outcome.{called}
+use Rattle.entry.specs.Deposit.{depositAct}
+use Rattle.calls.proofs.Runs.{runs}
 use Rattle.calls.proofs.deposit.Statement.{statement}
 use Rattle.calls.proofs.deposit.Tie as tie
 
@@ -27,9 +28,6 @@ slice-aggregate-deposit-3 c = search needs
 deposit-requires : tie.Need-deposit-requires
 deposit-requires c κs = search needs
 
-is-deposited-requires : tie.Need-is-deposited-requires
-is-deposited-requires c κs = search needs
-
 slice-aggregate-store : tie.Need-slice-aggregate-store
 slice-aggregate-store c = search needs
 
@@ -46,13 +44,12 @@ same-length : tie.Need-same-length
 same-length c = search needs
 
 returns : tie.Need-returns
-returns c = deposit-runs (c .before .before .before .before .before .before .before .before .before .before .before .before .before .before .before .before .before .before .before .before .before .args .s .now) (c .before .before .before .before .before .before .before .before .before .before .before .before .before .before .before .before .before .before .accounts-of .ensures .0) (c .before .before .before .before .before .before .before .before .before .before .before .before .before .before .before .before .counters-of .ensures .0) (c .before .before .before .before .before .before .before .before .before .before .before .before .before .before .pays-of .ensures .0) true (c .before .before .before .before .before .before .before .before .before .before .deposit .result) (c .before .before .before .before .before .before .before .before .before .before .deposit .ensures) (sym (c .before .before .before .before .before .before .before .before .is-deposited .ensures) ∙ c .before .before .before .before .before .before .before .if1 .taken) (c .before .before .store .ensures)
-
-same-length-2 : tie.Need-same-length-2
-same-length-2 c = search needs
-
-returns-2 : tie.Need-returns-2
-returns-2 c = deposit-runs (c .before .before .before .before .before .before .before .before .before .before .before .before .before .before .args .s .now) (c .before .before .before .before .before .before .before .before .before .before .before .accounts-of .ensures .0) (c .before .before .before .before .before .before .before .before .before .counters-of .ensures .0) (c .before .before .before .before .before .before .before .pays-of .ensures .0) false (c .before .before .before .deposit .result) (c .before .before .before .deposit .ensures) (sym (c .before .is-deposited .ensures) ∙ c .if1 .left) refl
+returns c =
+    let s = c .before .before .before .before .before .before .before .before .before .before .before .before .before .before .before .before .before .before .before in
+    runs (called (depositAct (s .args .member) (s .args .amount))) (s .args .s .now)
+    (tables-same (c .before .before .before .before .before .before .before .before .before .before .before .before .before .before .before .before .accounts-of .ensures .0) (c .before .before .before .before .before .before .before .before .before .before .before .before .before .before .counters-of .ensures .0) (c .before .before .before .before .before .before .before .before .before .before .before .before .pays-of .ensures .0))
+    (c .before .before .before .before .before .before .before .before .deposit .ensures)
+    (c .before .before .store .ensures)
 
 pub deposit-spec : {M : Type 1} → statement M
 deposit-spec =
@@ -65,12 +62,9 @@ deposit-spec =
     slice-aggregate-deposit-2
     slice-aggregate-deposit-3
     deposit-requires
-    is-deposited-requires
     slice-aggregate-store
     slice-aggregate-store-2
     slice-aggregate-store-3
     store-requires
     same-length
-    returns
-    same-length-2
-    returns-2)
+    returns)

@@ -1,8 +1,9 @@
 -- `calls::open_members` meets its contract: no loop; what the house did to the lists is what is put back.
-use mathlib.Core.Path.{refl, sym, _∙_}
-use mathlib.Core.Bool.{true, false}
-use Rattle.calls.proofs.Runs.{open-runs}
 use borrow.Author.Needs.{needs}
+use Rattle.tables.proofs.Same.{tables-same}
+use Rattle.answers.specs.Outcome.{held}
+use Rattle.opening.specs.Open.{openAct}
+use Rattle.calls.proofs.Runs.{runs}
 use Rattle.calls.proofs.open_members.Statement.{statement}
 use Rattle.calls.proofs.open_members.Tie as tie
 
@@ -27,9 +28,6 @@ slice-aggregate-open-3 c = search needs
 open-requires : tie.Need-open-requires
 open-requires c κs = search needs
 
-is-opened-requires : tie.Need-is-opened-requires
-is-opened-requires c κs = search needs
-
 slice-aggregate-store : tie.Need-slice-aggregate-store
 slice-aggregate-store c = search needs
 
@@ -46,13 +44,12 @@ same-length : tie.Need-same-length
 same-length c = search needs
 
 returns : tie.Need-returns
-returns c = open-runs (c .before .before .before .before .before .before .before .before .before .before .before .before .before .before .before .before .before .before .before .before .before .before .before .args .s .now) (c .before .before .before .before .before .before .before .before .before .before .before .before .before .before .before .before .before .before .before .before .accounts-of .ensures .0) (c .before .before .before .before .before .before .before .before .before .before .before .before .before .before .before .before .before .before .counters-of .ensures .0) (c .before .before .before .before .before .before .before .before .before .before .before .before .before .before .before .before .pays-of .ensures .0) true (c .before .before .before .before .before .before .before .before .before .before .before .before .«open» .result) (c .before .before .before .before .before .before .before .before .before .before .before .before .«open» .ensures) (sym (c .before .before .before .before .before .before .before .before .is-opened .ensures) ∙ c .before .before .before .before .before .before .before .if1 .taken) (c .before .before .store .ensures)
-
-same-length-2 : tie.Need-same-length-2
-same-length-2 c = search needs
-
-returns-2 : tie.Need-returns-2
-returns-2 c = open-runs (c .before .before .before .before .before .before .before .before .before .before .before .before .before .before .before .before .args .s .now) (c .before .before .before .before .before .before .before .before .before .before .before .before .before .accounts-of .ensures .0) (c .before .before .before .before .before .before .before .before .before .before .before .counters-of .ensures .0) (c .before .before .before .before .before .before .before .before .before .pays-of .ensures .0) false (c .before .before .before .before .before .«open» .result) (c .before .before .before .before .before .«open» .ensures) (sym (c .before .is-opened .ensures) ∙ c .if1 .left) refl
+returns c =
+    let s = c .before .before .before .before .before .before .before .before .before .before .before .before .before .before .before .before .before .before .before .before .before in
+    runs (held (openAct (s .args .count) (s .args .b .now) (s .args .l .now))) (s .args .s .now)
+    (tables-same (c .before .before .before .before .before .before .before .before .before .before .before .before .before .before .before .before .before .before .accounts-of .ensures .0) (c .before .before .before .before .before .before .before .before .before .before .before .before .before .before .before .before .counters-of .ensures .0) (c .before .before .before .before .before .before .before .before .before .before .before .before .before .before .pays-of .ensures .0))
+    (c .before .before .before .before .before .before .before .before .before .before .«open» .ensures)
+    (c .before .before .store .ensures)
 
 pub open-members-spec : {M : Type 1} → statement M
 open-members-spec =
@@ -65,12 +62,9 @@ open-members-spec =
     slice-aggregate-open-2
     slice-aggregate-open-3
     open-requires
-    is-opened-requires
     slice-aggregate-store
     slice-aggregate-store-2
     slice-aggregate-store-3
     store-requires
     same-length
-    returns
-    same-length-2
-    returns-2)
+    returns)

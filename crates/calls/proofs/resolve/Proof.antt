@@ -1,5 +1,9 @@
 -- `calls::resolve` meets its contract: no loop; the room for counts is as long as the bytes say.
-use mathlib.Core.Path.{sym, _∙_}
+use mathlib.Core.Path.{sym, ap, _∙_}
+use mathlib.Core.List.{List}
+use Prim.Native.Nat.{ℕ}
+use Rattle.words.specs.Row.{putRow, plain}
+use Rattle.answers.specs.declared.Resolved.{Resolved}
 use lib.Seq.{length-take-le}
 use borrow.Author.Needs.{needs}
 use Rattle.calls.proofs.resolve.Statement.{statement}
@@ -24,7 +28,12 @@ same-length-2 : tie.Need-same-length-2
 same-length-2 c = search needs
 
 returns : tie.Need-returns
-returns c = let e = sym (slice-aggregate-resolve-list (c .before .before .before .before .before .before)) ∙ c .before .before .before .before .before .before .before .before .before .entries-of .ensures .0 in rw e at (c .before .before .before .before .before .resolve-list .ensures)
+returns c =
+    let e = sym (slice-aggregate-resolve-list (c .before .before .before .before .before .before)) ∙ c .before .before .before .before .before .before .before .before .before .entries-of .ensures .0 in
+    let f = rw e at (c .before .before .before .before .before .resolve-list .ensures .0) in (
+      (ap (λ (x : (Resolved × List ℕ) × List ℕ). x .0 .0) f, ap (λ (x : (Resolved × List ℕ) × List ℕ). x .1) f),
+      c .before .before .before .before .before .resolve-list .ensures .1 ∙ ap (λ (x : (Resolved × List ℕ) × List ℕ). putRow plain 2 (c .before .before .before .before .before .before .before .before .before .before .before .before .args .counts .now) 0 (x .0 .1)) f,
+    )
 
 pub resolve-spec : {M : Type 1} → statement M
 resolve-spec =

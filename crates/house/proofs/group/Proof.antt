@@ -1,8 +1,10 @@
 -- `house::group` meets its contract: no loop; the tables hold a state, or the answer is 1.
 use borrow.Author.Needs.{needs}
-use mathlib.Core.Path.{refl}
+use mathlib.Core.Path.{sym, _∙_}
 use Rattle.tables.proofs.States.{state-holds}
 use Rattle.tables.proofs.Tests.{flag-no, flag-yes}
+use Rattle.settling.specs.Group.{groupAct}
+use Rattle.answers.proofs.Outcomes.{called-held, called-none}
 use Rattle.house.proofs.group.Statement.{statement}
 use Rattle.house.proofs.group.Tie as tie
 
@@ -19,10 +21,11 @@ same-length-3 : tie.Need-same-length-3
 same-length-3 c = search needs
 
 returns : tie.Need-returns
-returns c = record { answer = rw (flag-no (c .before .is-state .ensures) (c .if1 .taken)); accounts = refl; counters = refl; pays = refl }
+unfolding groupAct
+returns c = sym (called-none _ _ (flag-no (c .before .is-state .ensures) (c .if1 .taken)))
 
 group-requires : tie.Need-group-requires
-group-requires c κs = state-holds _ _ _ (flag-yes (c .before .before .before .before .is-state .ensures) (c .before .before .before .if1 .left))
+group-requires c κs = state-holds (flag-yes (c .before .before .before .before .is-state .ensures) (c .before .before .before .if1 .left))
 
 same-length-4 : tie.Need-same-length-4
 same-length-4 c = search needs
@@ -34,9 +37,7 @@ same-length-6 : tie.Need-same-length-6
 same-length-6 c = search needs
 
 returns-2 : tie.Need-returns-2
-returns-2 c =
-    let e = c .before .before .before .before .before .group .ensures in
-    record { answer = rw (flag-yes (c .before .before .before .before .before .before .before .before .before .before .is-state .ensures) (c .before .before .before .before .before .before .before .before .before .if1 .left)) (e .0); accounts = e .1 .0; counters = e .1 .1 .0; pays = e .1 .1 .1 }
+returns-2 c = c .before .before .before .before .before .group .ensures ∙ sym (called-held _ _ (flag-yes (c .before .before .before .before .before .before .before .before .before .before .is-state .ensures) (c .before .before .before .before .before .before .before .before .before .if1 .left)))
 
 pub group-spec : {M : Type 1} → statement M
 group-spec =

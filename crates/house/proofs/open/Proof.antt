@@ -1,22 +1,31 @@
 -- `house::open` meets its contract: no loop; a judgement that found nothing gives what filling the tables and the sum ask.
 use borrow.Author.Needs.{needs}
-use mathlib.Core.Path.{_≡_, refl, sym, ap, _∙_}
+use mathlib.Core.Path.{_≡_, sym, ap₂, _∙_}
 use native.Mathlib.Omega.{arith}
 use Rattle.rule.proofs.Ints.{plain}
 use Rattle.rule.specs.House.{money}
+use Rattle.tables.specs.Layout.{Tables, tables}
+use Rattle.tables.proofs.Same.{tables-same}
 use Rattle.tables.proofs.Balances.{near-holder}
+use Rattle.answers.specs.Codes.{first}
+use Rattle.answers.specs.Outcome.{outcome}
+use Rattle.answers.proofs.Outcomes.{held-fine, held-bad}
 use Rattle.answers.specs.declared.Judged.the-variants.{Fine}
 use Rattle.answers.specs.declared.Opened.the-variants.{Done}
-use Rattle.opening.specs.Open.{entry, judgeOpen, answerOpen}
+use Rattle.opening.specs.Open.{entry, openedIn, openAct}
 use Rattle.opening.proofs.Judging.{Opens, open-fine}
 use Rattle.house.proofs.open.Statement.{statement}
 use Rattle.house.proofs.open.Tie as tie
 
-fine : (c : tie.After-enum-told) → let s = c .before .before .before .before .before .before .before .before in judgeOpen (s .args .accounts .now) (s .args .counters .now) (s .args .pays .now) (s .args .count) (s .args .balances .now) (s .args .lines .now) ≡ Fine
+abbrev lent : tie.Start → Tables
+lent s = tables (s .args .accounts .now) (s .args .counters .now) (s .args .pays .now)
+
+fine : (c : tie.After-enum-told) → let s = c .before .before .before .before .before .before .before .before in first (openAct (s .args .count) (s .args .balances .now) (s .args .lines .now) .tests (lent s)) ≡ Fine
+unfolding openAct
 fine c = sym (c .before .before .judge .ensures) ∙ c .enum-told .given .1
 
-accepted : (c : tie.After-enum-told) → let s = c .before .before .before .before .before .before .before .before in Opens (s .args .accounts .now) (s .args .counters .now) (s .args .pays .now) (s .args .count) (s .args .balances .now) (s .args .lines .now)
-accepted c = open-fine _ _ _ _ _ _ (fine c)
+accepted : (c : tie.After-enum-told) → let s = c .before .before .before .before .before .before .before .before in Opens (lent s) (s .args .count) (s .args .balances .now) (s .args .lines .now)
+accepted c = open-fine (fine c)
 
 judge-requires : tie.Need-judge-requires
 judge-requires c κs = search needs
@@ -51,7 +60,8 @@ same-length-3 : tie.Need-same-length-3
 same-length-3 c = search needs
 
 returns : tie.Need-returns
-returns c = record { answer = sym (ap (answerOpen (c .before .before .before .before .before .before .before .before .before .args .count) (c .before .before .before .before .before .before .before .before .before .args .balances .now)) (sym (c .before .before .before .judge .ensures) ∙ c .before .j .given .1)); accounts = refl; counters = refl; pays = refl }
+unfolding openAct
+returns c = sym (held-bad _ _ (sym (c .before .before .before .judge .ensures) ∙ c .before .j .given .1))
 
 same-length-4 : tie.Need-same-length-4
 same-length-4 c = search needs
@@ -63,16 +73,13 @@ same-length-6 : tie.Need-same-length-6
 same-length-6 c = search needs
 
 returns-2 : tie.Need-returns-2
+unfolding openAct openedIn
 returns-2 c =
     let s = c .before .before .before .before .before .before .before .before .before .before .before .before .before .before .before .before .before .before .before .before in
     let r = c .total .ok in
     let e : c .total .result ≡ money (s .args .count) (entry (s .args .balances .now)) = c .total .ensures in
-    record {
-      answer = simp plain (ap Done e ∙ sym (ap (answerOpen (s .args .count) (s .args .balances .now)) (fine (c .before .before .before .before .before .before .before .before .before .before .before .before))));
-      accounts = c .before .before .before .before .before .before .before .before .before .before .fill-accounts .ensures;
-      counters = c .before .before .before .before .before .before .before .fill-counters .ensures;
-      pays = c .before .before .before .fill-pays .ensures;
-    }
+    simp plain (ap₂ (λ x (W : Tables). outcome (Done x) W) e (tables-same (c .before .before .before .before .before .before .before .before .before .before .fill-accounts .ensures) (c .before .before .before .before .before .before .before .fill-counters .ensures) (c .before .before .before .fill-pays .ensures))
+    ∙ sym (held-fine (openAct (s .args .count) (s .args .balances .now) (s .args .lines .now)) (lent s) (fine (c .before .before .before .before .before .before .before .before .before .before .before .before))))
 
 pub open-spec : {M : Type 1} → statement M
 open-spec =

@@ -1,8 +1,10 @@
 -- `house::resolve` meets its contract: no loop; the tables hold a state, or the answer is 1.
 use borrow.Author.Needs.{needs}
-use mathlib.Core.Path.{refl}
+use mathlib.Core.Path.{sym, _∙_}
 use Rattle.tables.proofs.States.{state-holds}
 use Rattle.tables.proofs.Tests.{flag-no, flag-yes}
+use Rattle.resolving.specs.Resolve.{resolveAct}
+use Rattle.answers.proofs.Outcomes.{called-held, called-none}
 use Rattle.house.proofs.resolve.Statement.{statement}
 use Rattle.house.proofs.resolve.Tie as tie
 
@@ -19,10 +21,11 @@ same-length-3 : tie.Need-same-length-3
 same-length-3 c = search needs
 
 returns : tie.Need-returns
-returns c = (rw (flag-no (c .before .is-state .ensures) (c .if1 .taken)), record { accounts = refl; counters = refl; pays = refl; counts = refl })
+unfolding resolveAct
+returns c = sym (called-none _ _ (flag-no (c .before .is-state .ensures) (c .if1 .taken)))
 
 resolve-requires : tie.Need-resolve-requires
-resolve-requires c κs = state-holds _ _ _ (flag-yes (c .before .before .before .before .before .is-state .ensures) (c .before .before .before .before .if1 .left))
+resolve-requires c κs = state-holds (flag-yes (c .before .before .before .before .before .is-state .ensures) (c .before .before .before .before .if1 .left))
 
 same-length-4 : tie.Need-same-length-4
 same-length-4 c = search needs
@@ -37,7 +40,7 @@ same-length-7 : tie.Need-same-length-7
 same-length-7 c = search needs
 
 returns-2 : tie.Need-returns-2
-returns-2 c = rw (flag-yes (c .before .before .before .before .before .before .before .before .before .before .before .before .before .is-state .ensures) (c .before .before .before .before .before .before .before .before .before .before .before .before .if1 .left)) (c .before .before .before .before .before .before .before .resolve .ensures)
+returns-2 c = c .before .before .before .before .before .before .before .resolve .ensures ∙ sym (called-held _ _ (flag-yes (c .before .before .before .before .before .before .before .before .before .before .before .before .before .is-state .ensures) (c .before .before .before .before .before .before .before .before .before .before .before .before .if1 .left)))
 
 pub resolve-spec : {M : Type 1} → statement M
 resolve-spec =

@@ -1,8 +1,10 @@
 -- `house::submit` meets its contract: no loop; the tables hold a state, or the answer is 1.
 use borrow.Author.Needs.{needs}
-use mathlib.Core.Path.{refl}
+use mathlib.Core.Path.{sym, _∙_}
 use Rattle.tables.proofs.States.{state-holds}
 use Rattle.tables.proofs.Tests.{flag-no, flag-yes}
+use Rattle.entry.specs.Submit.{submitAct}
+use Rattle.answers.proofs.Outcomes.{called-held, called-none}
 use Rattle.house.proofs.submit.Statement.{statement}
 use Rattle.house.proofs.submit.Tie as tie
 
@@ -16,10 +18,11 @@ same-length-2 : tie.Need-same-length-2
 same-length-2 c = search needs
 
 returns : tie.Need-returns
-returns c = record { answer = rw (flag-no (c .before .is-state .ensures) (c .if1 .taken)); counters = refl; pays = refl }
+unfolding submitAct
+returns c = sym (called-none _ _ (flag-no (c .before .is-state .ensures) (c .if1 .taken)))
 
 submit-requires : tie.Need-submit-requires
-submit-requires c κs = record { accounts = c .before .before .before .before .before .before .before .before .args .accounts .now; holds = state-holds _ _ _ (flag-yes (c .before .before .before .is-state .ensures) (c .before .before .if1 .left)) }
+submit-requires c κs = state-holds (flag-yes (c .before .before .before .is-state .ensures) (c .before .before .if1 .left))
 
 same-length-3 : tie.Need-same-length-3
 same-length-3 c = search needs
@@ -28,7 +31,7 @@ same-length-4 : tie.Need-same-length-4
 same-length-4 c = search needs
 
 returns-2 : tie.Need-returns-2
-returns-2 c = let e = c .before .before .before .before .submit .ensures in record { answer = rw (flag-yes (c .before .before .before .before .before .before .before .before .is-state .ensures) (c .before .before .before .before .before .before .before .if1 .left)) (e .0); counters = e .1 .0; pays = e .1 .1 }
+returns-2 c = c .before .before .before .before .submit .ensures ∙ sym (called-held _ _ (flag-yes (c .before .before .before .before .before .before .before .before .is-state .ensures) (c .before .before .before .before .before .before .before .if1 .left)))
 
 pub submit-spec : {M : Type 1} → statement M
 submit-spec =

@@ -1,6 +1,6 @@
 -- `night::answer` meets its contract: no loop; each stage is a case.
 use Rattle.night.proofs.Stages.{stands-at, read-small}
-use Rattle.night.specs.Lines.{tables}
+use Rattle.tables.specs.Layout.{tables}
 use borrow.Author.Needs.{needs}
 use Rattle.night.proofs.answer.Statement.{statement}
 use Rattle.night.proofs.answer.Tie as tie

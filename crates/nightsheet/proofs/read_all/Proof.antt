@@ -1,7 +1,7 @@
 -- `nightsheet::read_all` meets its contract. The invariant: the night suits its tables, with the memory as it was lent.
 use Rattle.nightsheet.specs.Sizes.{outBytes, Lent}
 use Rattle.sheet.specs.Feeding.{Fit}
-use Rattle.night.specs.Lines.{tables}
+use Rattle.tables.specs.Layout.{tables}
 use lib.ListN.{length}
 use borrow.Author.Needs.{needs}
 use native.Mathlib.Omega.{arith}

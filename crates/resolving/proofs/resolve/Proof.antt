@@ -1,18 +1,25 @@
 -- `resolving::resolve` meets its contract: no loop; the counts of the largest set can be booked, and what is booked and told is what is promised.
 use borrow.Author.Needs.{needs}
 use borrow.Author.Tests.{eq-eqb, ne-eqb}
-use mathlib.Core.Path.{_≡_, refl, sym, ap, _∙_, subst}
+use mathlib.Core.Path.{_≡_, sym, ap, _∙_, subst}
 use Prim.Native.Nat.{_≤_}
+use native.Mathlib.Omega.{arith}
 use lib.ListN.{length, take}
 use Rattle.rule.specs.Kernel.{sum}
 use Rattle.rule.specs.Verdict.{verdictOf}
-use Rattle.tables.specs.Layout.{countOf, waitingOf}
+use Rattle.tables.specs.Layout.{Tables, tables, countOf, waitingOf}
 use Rattle.booking.specs.Booking.{listed}
 use Rattle.booking.proofs.Reading.{counters-length}
 use Rattle.booking.proofs.Kept.{booked-count}
+use Rattle.answers.specs.Verdicts.{named}
+use Rattle.answers.proofs.Outcomes.{held-fine, held-bad}
+use Rattle.resolving.specs.Resolve.{resolveAct}
 use Rattle.resolving.proofs.Resolving.{largest-counted, settles}
 use Rattle.resolving.proofs.resolve.Statement.{statement}
 use Rattle.resolving.proofs.resolve.Tie as tie
+
+abbrev lent : tie.Start → Tables
+lent s = tables (s .args .accounts .now) (s .args .counters .now) (s .args .pays .now)
 
 fits : (c : tie.Else1) → let s = c .before .before .before .before .before .before in length (s .args .counts .now) ≡ countOf (s .args .counters .now)
 fits c = c .if1 .left ∙ c .before .wide .ensures
@@ -27,7 +34,10 @@ wide-requires : tie.Need-wide-requires
 wide-requires c κs = search needs
 
 returns : tie.Need-returns
-returns c = let s = c .before .before .before .before .before .before in (rw (ne-eqb (length (s .args .counts .now)) (countOf (s .args .counters .now)) (λ e. c .if1 .taken (e ∙ sym (c .before .wide .ensures)))), record { accounts = refl; counters = refl; pays = refl; counts = refl })
+unfolding resolveAct
+returns c =
+    let s = c .before .before .before .before .before .before in
+    sym (held-bad (resolveAct (s .args .counts .now)) (lent s) (rw (ne-eqb (length (s .args .counts .now)) (countOf (s .args .counters .now)) (λ e. c .if1 .taken (e ∙ sym (c .before .wide .ensures))))))
 
 slice-read-waited : tie.Need-slice-read-waited
 slice-read-waited c = search needs
@@ -60,7 +70,7 @@ slice-aggregate-tell : tie.Need-slice-aggregate-tell
 slice-aggregate-tell c = search needs
 
 tell-requires : tie.Need-tell-requires
-tell-requires c κs = search needs
+tell-requires c κs = omega (arith, fits (c .before .before .before .before .before .before .before .before .before .before .before .before .before .before .before .before .before .before .before .before .before .before .before .before .before), c .before .before .before .before .before .before .before .before .before .before .before .before .before .before .before .before .before .before .before .before .before .before .before .before .before .before .before .before .before .before .before .pre .counters .few, c .before .before .before .before .before .before .before .before .before .before .before .before .before .before .before .before .before .before .before .before .largest .ensures .each)
 
 verdict-of-requires : tie.Need-verdict-of-requires
 verdict-of-requires c κs = search needs
@@ -71,10 +81,10 @@ cast-t51 c = search needs
 still-waiting-requires : tie.Need-still-waiting-requires
 still-waiting-requires c κs =
     let s = c .before .before .before .before .before .before .before .before .before .before .before .before .before .before .before .before .before .before .before .before .before .before .before .before .before .before .before .before .before .before .before .before .before .before .before .before in
-    let b = c .before .before .before .before .before .before .before .before .before .before .before .before .book .ensures .1 .0 in
+    let b = c .before .before .before .before .before .before .before .before .before .before .before .before .book .ensures .0 in
     let h = s .pre in
     let z = listed (c .before .before .before .before .before .before .before .before .before .before .before .before .before .before .before .before .before .before .before .before .before .before .before .before .before .largest .result) in
-    (subst (λ y. 512 ≤ length y) (sym b) (rw (counters-length h z) (h .broad)), subst (λ y. countOf y ≤ 64) (sym b) (rw (booked-count h z) (h .few)))
+    (subst (λ (W : Tables). 512 ≤ length (W .counters)) (sym b) (rw (counters-length h z) (h .counters .broad)), subst (λ (W : Tables). countOf (W .counters) ≤ 64) (sym b) (rw (booked-count h z) (h .counters .few)))
 
 same-length : tie.Need-same-length
 same-length c = search needs
@@ -89,16 +99,16 @@ same-length-4 : tie.Need-same-length-4
 same-length-4 c = search needs
 
 returns-2 : tie.Need-returns-2
+unfolding resolveAct
 returns-2 c =
     let s = c .before .before .before .before .before .before .before .before .before .before .before .before .before .before .before .before .before .before .before .before .before .before .before .before .before .before .before .before .before .before .before .before .before .before .before .before .before in
     let g = c .before .before .before .before .before .before .before .before .before .before .before .before .before .before .before .before .before .before .before .before .before .before .before .before .before .before in
     let b = c .before .before .before .before .before .before .before .before .before .before .before .before .before .book .ensures in
     let n = fits (c .before .before .before .before .before .before .before .before .before .before .before .before .before .before .before .before .before .before .before .before .before .before .before .before .before .before .before .before .before .before .before) in
-    let t = tallied (c .before .before .before .before .before .before .before .before .before .before .before .before .before .before .before .before .before .before .before .before .before .before .before .before) in (
-      rw (eq-eqb (length (s .args .counts .now)) (countOf (s .args .counters .now)) n),
-      settles (s .pre) (g .largest .ensures) _ (b .0) (b .1 .0) (b .1 .1 .0) (c .before .before .before .before .before .tell .ensures ∙ ap (λ k. take k (g .largest .result)) n)
-          (c .before .before .verdict-of .ensures ∙ ap (verdictOf (waitingOf (s .args .counters .now))) t) t (b .1 .1 .1) (c .still-waiting .ensures),
-    )
+    let t = tallied (c .before .before .before .before .before .before .before .before .before .before .before .before .before .before .before .before .before .before .before .before .before .before .before .before) in
+    settles (s .pre) (g .largest .ensures) (s .args .counts .now) _ (b .0) (c .before .before .before .before .before .tell .ensures ∙ ap (λ k. take k (g .largest .result)) n)
+    (c .before .before .verdict-of .ensures ∙ ap (λ k. named (verdictOf (waitingOf (s .args .counters .now)) k)) t) t (b .1) (c .still-waiting .ensures)
+    ∙ sym (held-fine (resolveAct (s .args .counts .now)) (lent s) (rw (eq-eqb (length (s .args .counts .now)) (countOf (s .args .counters .now)) n)))
 
 pub resolve-spec : {M : Type 1} → statement M
 resolve-spec =

@@ -1,35 +1,42 @@
 -- `settling::group` meets its contract: no loop; the counts, widened to 64 members, are tried.
 use borrow.Author.Needs.{needs}
-use mathlib.Core.Path.{_≡_, refl, sym, _∙_}
+use mathlib.Core.Path.{_≡_, sym, ap, _∙_}
 use mathlib.Core.Bool.{true}
 use native.Mathlib.Omega.{arith}
-use Rattle.tables.specs.Layout.{countOf, houseOf}
+use Rattle.rule.specs.Kernel.{Counts}
+use Rattle.tables.specs.Layout.{Tables, tables, membersIn, houseIn}
 use Rattle.tables.proofs.Tests.{flag-no, flag-yes}
-use Rattle.settling.specs.Group.{isCounts}
-use Rattle.settling.proofs.Settles.{counts-fit, counts-length, settled-last, group-bad, group-tried, group-counted, tried-same}
+use Rattle.answers.specs.Outcome.{held}
+use Rattle.answers.proofs.Outcomes.{held-bad}
+use Rattle.settling.specs.Group.{isCounts, bookAct, groupAct}
+use Rattle.settling.proofs.Settles.{counts-fit, counts-length, settled-last, group-bad, group-tried, group-counted}
 use Rattle.settling.proofs.group.Statement.{statement}
 use Rattle.settling.proofs.group.Tie as tie
 
+abbrev lent : tie.Start → Tables
+lent s = tables (s .args .accounts .now) (s .args .counters .now) (s .args .pays .now)
+
 -- the list is one of counts
 counts : (c : tie.Else1) → let s = c .before .before .before .before .before .before in
-    isCounts (countOf (s .args .counters .now)) (houseOf (s .args .accounts .now) (s .args .counters .now) (s .args .pays .now)) (s .args .counts .now) ≡ true
+    isCounts (membersIn (lent s)) (houseIn (lent s)) (s .args .counts .now) ≡ true
 counts c =
     let s = c .before .before .before .before .before .before in
     sym (counts-fit (s .pre) (s .args .counts .now)) ∙ flag-yes (c .before .are-counts .ensures) (c .if1 .left)
 
 are-counts-requires : tie.Need-are-counts-requires
-are-counts-requires c κs = ((c .before .before .before .before .pre .broad, c .before .before .before .before .pre .few), settled-last (c .before .before .before .before .pre))
+are-counts-requires c κs = ((c .before .before .before .before .pre .counters .broad, c .before .before .before .before .pre .counters .few), settled-last (c .before .before .before .before .pre))
 
 same-length : tie.Need-same-length
 same-length c = search needs
 
 returns : tie.Need-returns
+unfolding groupAct
 returns c =
     let s = c .before .before .before .before .before .before in
-    (group-bad (s .pre) (s .args .counts .now) (sym (counts-fit (s .pre) (s .args .counts .now)) ∙ flag-no (c .before .are-counts .ensures) (c .if1 .taken)), (refl, (refl, refl)))
+    sym (held-bad (groupAct (s .args .counts .now)) (lent s) (group-bad (s .pre) (s .args .counts .now) (sym (counts-fit (s .pre) (s .args .counts .now)) ∙ flag-no (c .before .are-counts .ensures) (c .if1 .taken))))
 
 widened-requires : tie.Need-widened-requires
-widened-requires c κs = omega (arith, counts-length (c .before .before .before .before .before .before .pre) (c .before .before .before .before .before .before .args .counts .now) (counts c), c .before .before .before .before .before .before .pre .few)
+widened-requires c κs = omega (arith, counts-length (c .before .before .before .before .before .before .pre) (c .before .before .before .before .before .before .args .counts .now) (counts c), c .before .before .before .before .before .before .pre .counters .few)
 
 slice-aggregate-try-book : tie.Need-slice-aggregate-try-book
 slice-aggregate-try-book c = search needs
@@ -49,9 +56,9 @@ same-length-4 c = search needs
 returns-2 : tie.Need-returns-2
 returns-2 c =
     let s = c .before .before .before .before .before .before .before .before .before .before .before .before .before .before .before .before .before in
-    let e = c .before .before .before .before .before .try-book .ensures in
-    let t = tried-same {a = s .args .accounts .now} {c = s .args .counters .now} {p = s .args .pays .now} (c .before .before .before .before .before .before .before .before .before .before .widened .ensures .1) (record { answer = e .0; accounts = e .1 .0; counters = e .1 .1 .0; pays = e .1 .1 .1 }) in
-    (t .answer ∙ group-tried (s .pre) (s .args .counts .now) (counts (c .before .before .before .before .before .before .before .before .before .before .before)), (t .accounts, (t .counters, t .pays)))
+    c .before .before .before .before .before .try-book .ensures
+    ∙ ap (λ (z : Counts). held (bookAct z) (lent s)) (c .before .before .before .before .before .before .before .before .before .before .widened .ensures .1)
+    ∙ group-tried (s .pre) (s .args .counts .now) (counts (c .before .before .before .before .before .before .before .before .before .before .before))
 
 pub group-spec : {M : Type 1} → statement M
 group-spec =

@@ -1,14 +1,21 @@
 -- `settling::try_book` meets its contract: no loop; the test of the positions is the rule's, of each member.
 use borrow.Author.Needs.{needs}
-use mathlib.Core.Path.{refl, sym, ap₂, _∙_}
-use Rattle.tables.specs.Layout.{countOf, houseOf}
+use mathlib.Core.Path.{_≡_, sym, ap₂, _∙_}
+use mathlib.Core.Bool.{Bool}
+use Rattle.tables.specs.Layout.{Tables, tables, membersIn, houseIn}
 use Rattle.tables.proofs.Tests.{flag-no, flag-yes}
-use Rattle.booking.specs.Booking.{listed}
+use Rattle.booking.specs.Booking.{listed, bookedIn}
 use Rattle.booking.proofs.Covering.{covered-is}
+use Rattle.answers.specs.Outcome.{outcome}
 use Rattle.answers.specs.declared.Grouped.the-variants.{Done}
-use Rattle.settling.proofs.Settles.{refused-answer, booked-answer, tally-members}
+use Rattle.answers.proofs.Outcomes.{held-fine, held-bad}
+use Rattle.settling.specs.Group.{bookAct, isCovered}
+use Rattle.settling.proofs.Settles.{tally-members}
 use Rattle.settling.proofs.try_book.Statement.{statement}
 use Rattle.settling.proofs.try_book.Tie as tie
+
+abbrev lent : tie.Start → Tables
+lent s = tables (s .args .accounts .now) (s .args .counters .now) (s .args .pays .now)
 
 weigh-requires : tie.Need-weigh-requires
 weigh-requires c κs = search needs
@@ -17,7 +24,7 @@ slice-aggregate-covered : tie.Need-slice-aggregate-covered
 slice-aggregate-covered c = search needs
 
 covered-requires : tie.Need-covered-requires
-covered-requires c κs = (record { pays = c .before .before .before .before .before .before .before .before .before .before .args .pays .now; holds = c .before .before .before .before .before .before .before .before .before .before .pre .holds }, c .before .before .before .weigh .ensures .members)
+covered-requires c κs = let h = c .before .before .before .before .before .before .before .before .before .before .pre .holds in ((h .counters, h .accounts), c .before .before .before .weigh .ensures .members)
 
 same-length : tie.Need-same-length
 same-length c = search needs
@@ -29,10 +36,11 @@ same-length-3 : tie.Need-same-length-3
 same-length-3 c = search needs
 
 returns : tie.Need-returns
+unfolding bookAct
 returns c =
     let s = c .before .before .before .before .before .before .before .before .before .before .before .before in
     let e = sym (covered-is (s .pre .holds) (c .before .before .before .before .before .weigh .ensures)) ∙ flag-no (c .before .covered .ensures) (c .if1 .taken) in
-    (refused-answer (countOf (s .args .counters .now)) (houseOf (s .args .accounts .now) (s .args .counters .now) (s .args .pays .now)) (listed (s .args .counts .now)) e, (refl, (refl, refl)))
+    sym (held-bad (bookAct (listed (s .args .counts .now))) (lent s) (rw e))
 
 slice-aggregate-book : tie.Need-slice-aggregate-book
 slice-aggregate-book c = search needs
@@ -56,14 +64,13 @@ same-length-6 : tie.Need-same-length-6
 same-length-6 c = search needs
 
 returns-2 : tie.Need-returns-2
+unfolding bookAct
 returns-2 c =
     let s = c .before .before .before .before .before .before .before .before .before .before .before .before .before .before .before .before .before .before .before .before .before .before .before in
     let b = c .before .before .before .before .before .before .book .ensures in
-    let e = sym (covered-is (s .pre .holds) (c .before .before .before .before .before .before .before .before .before .before .before .before .before .before .before .before .weigh .ensures)) ∙ flag-yes (c .before .before .before .before .before .before .before .before .before .before .before .before .covered .ensures) (c .before .before .before .before .before .before .before .before .before .before .before .if1 .left) in (
-      ap₂ Done (c .tally .ensures ∙ tally-members (s .pre)) (b .1 .1 .1)
-          ∙ booked-answer (countOf (s .args .counters .now)) (houseOf (s .args .accounts .now) (s .args .counters .now) (s .args .pays .now)) (listed (s .args .counts .now)) e,
-      (b .0, (b .1 .0, b .1 .1 .0)),
-    )
+    let e = sym (covered-is (s .pre .holds) (c .before .before .before .before .before .before .before .before .before .before .before .before .before .before .before .before .weigh .ensures)) ∙ flag-yes (c .before .before .before .before .before .before .before .before .before .before .before .before .covered .ensures) (c .before .before .before .before .before .before .before .before .before .before .before .if1 .left) in
+    ap₂ (λ r (W : Tables). outcome r W) (ap₂ Done (c .tally .ensures ∙ tally-members (s .pre)) (b .1)) (b .0)
+    ∙ sym (held-fine (bookAct (listed (s .args .counts .now))) (lent s) (rw e))
 
 pub try-book-spec : {M : Type 1} → statement M
 try-book-spec =

@@ -2,7 +2,7 @@
 use Rattle.sheet.proofs.Desks.{fit-at, Going, going-first, going-next, closes-at}
 use Rattle.sheet.specs.Turns.{closeTurn, closesOn}
 use Rattle.sheet.specs.Feeding.{deskOf, turnsLeft}
-use Rattle.night.specs.Lines.{tables}
+use Rattle.tables.specs.Layout.{tables}
 use lib.ListN.{length}
 use mathlib.Core.List.{[]}
 use mathlib.Core.Path.{_≡_, refl, sym, _∙_}

@@ -2,7 +2,7 @@
 use Rattle.sheet.proofs.Desks.{fit-at, Going, going-first, going-next, goes-at}
 use Rattle.sheet.specs.Turns.{turnOf, goesOn}
 use Rattle.sheet.specs.Feeding.{deskOf, turnsLeft}
-use Rattle.night.specs.Lines.{tables}
+use Rattle.tables.specs.Layout.{tables}
 use lib.ListN.{length, drop}
 use Prim.Native.Nat.{_-_, _≤_}
 use mathlib.Core.Path.{_≡_, refl, sym, _∙_}

@@ -2,8 +2,10 @@
 use mathlib.Core.Path.{refl, sym}
 use lib.ListN.{length}
 use Rattle.tables.proofs.Tests.{flag-no, flag-yes}
-use Rattle.calls.specs.Deposit.{depositTold}
-use Rattle.snarevapor.proofs.Replies.{lent-tables, lent-answer, short, replied, told-none, told-signed}
+use Rattle.answers.specs.Outcome.{called}
+use Rattle.entry.specs.Deposit.{depositAct}
+use Rattle.calls.specs.Telling.{toldDeposited}
+use Rattle.snarevapor.proofs.Replies.{lent-tables, lent-answer, short-replied, replied, told-none, told-signed}
 use borrow.Author.Needs.{needs}
 use Rattle.snarevapor.proofs.snarevapor_deposit.Statement.{statement}
 use Rattle.snarevapor.proofs.snarevapor_deposit.Tie as tie
@@ -12,7 +14,7 @@ is-lent-requires : tie.Need-is-lent-requires
 is-lent-requires c κs = search needs
 
 returns : tie.Need-returns
-returns c = short _ (flag-no (c .before .is-lent .ensures) (c .if1 .taken))
+returns c = short-replied _ (flag-no (c .before .is-lent .ensures) (c .if1 .taken))
 
 deposit-requires : tie.Need-deposit-requires
 deposit-requires c κs = lent-tables _ _ (flag-yes (c .before .before .is-lent .ensures) (c .before .if1 .left))
@@ -36,13 +38,19 @@ same-length-2 : tie.Need-same-length-2
 same-length-2 c = search needs
 
 returns-2 : tie.Need-returns-2
-returns-2 c = replied (depositTold (c .before .before .before .before .before .before .before .before .before .before .before .before .before .before .before .args .tables .now) (c .before .before .before .before .before .before .before .before .before .before .before .before .before .before .before .args .member) (c .before .before .before .before .before .before .before .before .before .before .before .before .before .before .before .args .amount)) _ (flag-yes (c .before .before .before .before .before .before .before .before .before .before .before .before .is-lent .ensures) (c .before .before .before .before .before .before .before .before .before .before .before .if1 .left)) (c .before .before .before .before .before .before .before .before .before .deposit .ensures .0) (c .before .before .before .before .before .r .given .1) (c .before .before .before .before .before .before .before .before .before .deposit .ensures .1) refl (told-signed _ {z = c .before .before .before .before .before .r .given .0 .0} (record { sfits = c .before .before .before .before .known-told .given .0 .1 }) (c .before .before .write-i64 .ensures))
+returns-2 c =
+    let s = c .before .before .before .before .before .before .before .before .before .before .before .before .before .before .before in
+    let e = c .before .before .before .before .before .before .before .before .before .deposit .ensures in
+    replied toldDeposited (called (depositAct (s .args .member) (s .args .amount))) (s .args .tables .now) (flag-yes (c .before .before .before .before .before .before .before .before .before .before .before .before .is-lent .ensures) (c .before .before .before .before .before .before .before .before .before .before .before .if1 .left)) e (c .before .before .before .before .before .r .given .1) refl (told-signed _ {z = c .before .before .before .before .before .r .given .0 .0} (record { sfits = c .before .before .before .before .known-told .given .0 .1 }) (c .before .before .write-i64 .ensures))
 
 same-length-3 : tie.Need-same-length-3
 same-length-3 c = search needs
 
 returns-3 : tie.Need-returns-3
-returns-3 c = replied (depositTold (c .before .before .before .before .before .before .before .before .before .before .before .before .args .tables .now) (c .before .before .before .before .before .before .before .before .before .before .before .before .args .member) (c .before .before .before .before .before .before .before .before .before .before .before .before .args .amount)) _ (flag-yes (c .before .before .before .before .before .before .before .before .before .is-lent .ensures) (c .before .before .before .before .before .before .before .before .if1 .left)) (c .before .before .before .before .before .before .deposit .ensures .0) (c .before .before .r2 .given .1) (c .before .before .before .before .before .before .deposit .ensures .1) (c .code .ensures) (sym (told-none _))
+returns-3 c =
+    let s = c .before .before .before .before .before .before .before .before .before .before .before .before in
+    let e = c .before .before .before .before .before .before .deposit .ensures in
+    replied toldDeposited (called (depositAct (s .args .member) (s .args .amount))) (s .args .tables .now) (flag-yes (c .before .before .before .before .before .before .before .before .before .is-lent .ensures) (c .before .before .before .before .before .before .before .before .if1 .left)) e (c .before .before .r2 .given .1) (c .code .ensures) (sym (told-none _))
 
 pub snarevapor-deposit-spec : {M : Type 1} → statement M
 snarevapor-deposit-spec =

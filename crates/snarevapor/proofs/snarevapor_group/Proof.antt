@@ -3,8 +3,11 @@ use mathlib.Core.Path.{refl, sym}
 use lib.ListN.{length}
 use Rattle.tables.proofs.Tests.{flag-no, flag-yes}
 use Rattle.lists.specs.Bytes.{countsIn}
-use Rattle.calls.specs.Group.{groupTold}
-use Rattle.snarevapor.proofs.Replies.{lent-tables, lent-answer, short, replied, told-none}
+use Rattle.answers.specs.Outcome.{called}
+use Rattle.settling.specs.Group.{groupAct}
+use Rattle.calls.specs.Telling.{toldGrouped}
+use Rattle.lists.specs.Bytes.{countsIn}
+use Rattle.snarevapor.proofs.Replies.{lent-tables, lent-answer, short-replied, replied, told-none}
 use borrow.Author.Needs.{needs}
 use Rattle.snarevapor.proofs.snarevapor_group.Statement.{statement}
 use Rattle.snarevapor.proofs.snarevapor_group.Tie as tie
@@ -13,7 +16,7 @@ is-lent-requires : tie.Need-is-lent-requires
 is-lent-requires c κs = search needs
 
 returns : tie.Need-returns
-returns c = short _ (flag-no (c .before .is-lent .ensures) (c .if1 .taken))
+returns c = short-replied _ (flag-no (c .before .is-lent .ensures) (c .if1 .taken))
 
 group-requires : tie.Need-group-requires
 group-requires c κs = lent-tables _ _ (flag-yes (c .before .before .is-lent .ensures) (c .before .if1 .left))
@@ -37,13 +40,19 @@ same-length-2 : tie.Need-same-length-2
 same-length-2 c = search needs
 
 returns-2 : tie.Need-returns-2
-returns-2 c = replied (groupTold (c .before .before .before .before .before .before .before .before .before .before .before .before .before .before .before .before .args .tables .now) (countsIn (c .before .before .before .before .before .before .before .before .before .before .before .before .before .before .before .before .args .counts .now))) _ (flag-yes (c .before .before .before .before .before .before .before .before .before .before .before .before .is-lent .ensures) (c .before .before .before .before .before .before .before .before .before .before .before .if1 .left)) (c .before .before .before .before .before .before .before .before .before .group .ensures .0) (c .before .before .before .before .before .r .given .1) (c .before .before .before .before .before .before .before .before .before .group .ensures .1) refl (c .before .before .pair .ensures)
+returns-2 c =
+    let s = c .before .before .before .before .before .before .before .before .before .before .before .before .before .before .before .before in
+    let e = c .before .before .before .before .before .before .before .before .before .group .ensures in
+    replied toldGrouped (called (groupAct (countsIn (s .args .counts .now)))) (s .args .tables .now) (flag-yes (c .before .before .before .before .before .before .before .before .before .before .before .before .is-lent .ensures) (c .before .before .before .before .before .before .before .before .before .before .before .if1 .left)) e (c .before .before .before .before .before .r .given .1) refl (c .before .before .pair .ensures)
 
 same-length-3 : tie.Need-same-length-3
 same-length-3 c = search needs
 
 returns-3 : tie.Need-returns-3
-returns-3 c = replied (groupTold (c .before .before .before .before .before .before .before .before .before .before .before .before .before .args .tables .now) (countsIn (c .before .before .before .before .before .before .before .before .before .before .before .before .before .args .counts .now))) _ (flag-yes (c .before .before .before .before .before .before .before .before .before .is-lent .ensures) (c .before .before .before .before .before .before .before .before .if1 .left)) (c .before .before .before .before .before .before .group .ensures .0) (c .before .before .r2 .given .1) (c .before .before .before .before .before .before .group .ensures .1) (c .code .ensures) (sym (told-none _))
+returns-3 c =
+    let s = c .before .before .before .before .before .before .before .before .before .before .before .before .before in
+    let e = c .before .before .before .before .before .before .group .ensures in
+    replied toldGrouped (called (groupAct (countsIn (s .args .counts .now)))) (s .args .tables .now) (flag-yes (c .before .before .before .before .before .before .before .before .before .is-lent .ensures) (c .before .before .before .before .before .before .before .before .if1 .left)) e (c .before .before .r2 .given .1) (c .code .ensures) (sym (told-none _))
 
 pub snarevapor-group-spec : {M : Type 1} → statement M
 snarevapor-group-spec =

@@ -3,8 +3,11 @@ use mathlib.Core.Path.{refl, sym}
 use lib.ListN.{length}
 use Rattle.tables.proofs.Tests.{flag-no, flag-yes}
 use Rattle.lists.specs.Bytes.{signedIn}
-use Rattle.calls.specs.Open.{openTold}
-use Rattle.snarevapor.proofs.Replies.{lent-tables, lent-answer, short, replied, told-none, told-signed}
+use Rattle.answers.specs.Outcome.{held}
+use Rattle.opening.specs.Open.{openAct}
+use Rattle.calls.specs.Telling.{toldOpened}
+use Rattle.lists.specs.Bytes.{signedIn}
+use Rattle.snarevapor.proofs.Replies.{lent-tables, lent-answer, short-replied, replied, told-none, told-signed}
 use borrow.Author.Needs.{needs}
 use Rattle.snarevapor.proofs.snarevapor_open.Statement.{statement}
 use Rattle.snarevapor.proofs.snarevapor_open.Tie as tie
@@ -13,7 +16,7 @@ is-lent-requires : tie.Need-is-lent-requires
 is-lent-requires c κs = search needs
 
 returns : tie.Need-returns
-returns c = short _ (flag-no (c .before .is-lent .ensures) (c .if1 .taken))
+returns c = short-replied _ (flag-no (c .before .is-lent .ensures) (c .if1 .taken))
 
 open-requires : tie.Need-open-requires
 open-requires c κs = lent-tables _ _ (flag-yes (c .before .before .is-lent .ensures) (c .before .if1 .left))
@@ -37,13 +40,19 @@ same-length-2 : tie.Need-same-length-2
 same-length-2 c = search needs
 
 returns-2 : tie.Need-returns-2
-returns-2 c = replied (openTold (c .before .before .before .before .before .before .before .before .before .before .before .before .before .before .before .before .before .args .tables .now) (c .before .before .before .before .before .before .before .before .before .before .before .before .before .before .before .before .before .args .count) (signedIn (c .before .before .before .before .before .before .before .before .before .before .before .before .before .before .before .before .before .args .balances .now)) (signedIn (c .before .before .before .before .before .before .before .before .before .before .before .before .before .before .before .before .before .args .lines .now))) _ (flag-yes (c .before .before .before .before .before .before .before .before .before .before .before .before .is-lent .ensures) (c .before .before .before .before .before .before .before .before .before .before .before .if1 .left)) (c .before .before .before .before .before .before .before .before .before .«open» .ensures .0) (c .before .before .before .before .before .r .given .1) (c .before .before .before .before .before .before .before .before .before .«open» .ensures .1) refl (told-signed _ {z = c .before .before .before .before .before .r .given .0 .0} (record { sfits = c .before .before .before .before .known-told .given .0 .1 }) (c .before .before .write-i64 .ensures))
+returns-2 c =
+    let s = c .before .before .before .before .before .before .before .before .before .before .before .before .before .before .before .before .before in
+    let e = c .before .before .before .before .before .before .before .before .before .«open» .ensures in
+    replied toldOpened (held (openAct (s .args .count) (signedIn (s .args .balances .now)) (signedIn (s .args .lines .now)))) (s .args .tables .now) (flag-yes (c .before .before .before .before .before .before .before .before .before .before .before .before .is-lent .ensures) (c .before .before .before .before .before .before .before .before .before .before .before .if1 .left)) e (c .before .before .before .before .before .r .given .1) refl (told-signed _ {z = c .before .before .before .before .before .r .given .0 .0} (record { sfits = c .before .before .before .before .known-told .given .0 .1 }) (c .before .before .write-i64 .ensures))
 
 same-length-3 : tie.Need-same-length-3
 same-length-3 c = search needs
 
 returns-3 : tie.Need-returns-3
-returns-3 c = replied (openTold (c .before .before .before .before .before .before .before .before .before .before .before .before .before .before .args .tables .now) (c .before .before .before .before .before .before .before .before .before .before .before .before .before .before .args .count) (signedIn (c .before .before .before .before .before .before .before .before .before .before .before .before .before .before .args .balances .now)) (signedIn (c .before .before .before .before .before .before .before .before .before .before .before .before .before .before .args .lines .now))) _ (flag-yes (c .before .before .before .before .before .before .before .before .before .is-lent .ensures) (c .before .before .before .before .before .before .before .before .if1 .left)) (c .before .before .before .before .before .before .«open» .ensures .0) (c .before .before .r2 .given .1) (c .before .before .before .before .before .before .«open» .ensures .1) (c .code .ensures) (sym (told-none _))
+returns-3 c =
+    let s = c .before .before .before .before .before .before .before .before .before .before .before .before .before .before in
+    let e = c .before .before .before .before .before .before .«open» .ensures in
+    replied toldOpened (held (openAct (s .args .count) (signedIn (s .args .balances .now)) (signedIn (s .args .lines .now)))) (s .args .tables .now) (flag-yes (c .before .before .before .before .before .before .before .before .before .is-lent .ensures) (c .before .before .before .before .before .before .before .before .if1 .left)) e (c .before .before .r2 .given .1) (c .code .ensures) (sym (told-none _))
 
 pub snarevapor-open-spec : {M : Type 1} → statement M
 snarevapor-open-spec =

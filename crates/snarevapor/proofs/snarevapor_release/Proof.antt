@@ -2,8 +2,10 @@
 use mathlib.Core.Path.{refl, sym}
 use lib.ListN.{length}
 use Rattle.tables.proofs.Tests.{flag-no, flag-yes}
-use Rattle.calls.specs.Release.{releaseTold}
-use Rattle.snarevapor.proofs.Replies.{lent-tables, lent-answer, short, replied, told-none}
+use Rattle.answers.specs.Outcome.{called}
+use Rattle.settling.specs.Release.{releaseAct}
+use Rattle.calls.specs.Telling.{toldReleased}
+use Rattle.snarevapor.proofs.Replies.{lent-tables, lent-answer, short-replied, replied, told-none}
 use borrow.Author.Needs.{needs}
 use Rattle.snarevapor.proofs.snarevapor_release.Statement.{statement}
 use Rattle.snarevapor.proofs.snarevapor_release.Tie as tie
@@ -12,7 +14,7 @@ is-lent-requires : tie.Need-is-lent-requires
 is-lent-requires c κs = search needs
 
 returns : tie.Need-returns
-returns c = short _ (flag-no (c .before .is-lent .ensures) (c .if1 .taken))
+returns c = short-replied _ (flag-no (c .before .is-lent .ensures) (c .if1 .taken))
 
 release-requires : tie.Need-release-requires
 release-requires c κs = lent-tables _ _ (flag-yes (c .before .before .is-lent .ensures) (c .before .if1 .left))
@@ -36,13 +38,19 @@ same-length-2 : tie.Need-same-length-2
 same-length-2 c = search needs
 
 returns-2 : tie.Need-returns-2
-returns-2 c = replied (releaseTold (c .before .before .before .before .before .before .before .before .before .before .before .before .before .before .before .args .tables .now) (c .before .before .before .before .before .before .before .before .before .before .before .before .before .before .before .args .member)) _ (flag-yes (c .before .before .before .before .before .before .before .before .before .before .before .before .is-lent .ensures) (c .before .before .before .before .before .before .before .before .before .before .before .if1 .left)) (c .before .before .before .before .before .before .before .before .before .release .ensures .0) (c .before .before .before .before .before .r .given .1) (c .before .before .before .before .before .before .before .before .before .release .ensures .1) refl (c .before .before .pair .ensures)
+returns-2 c =
+    let s = c .before .before .before .before .before .before .before .before .before .before .before .before .before .before .before in
+    let e = c .before .before .before .before .before .before .before .before .before .release .ensures in
+    replied toldReleased (called (releaseAct (s .args .member))) (s .args .tables .now) (flag-yes (c .before .before .before .before .before .before .before .before .before .before .before .before .is-lent .ensures) (c .before .before .before .before .before .before .before .before .before .before .before .if1 .left)) e (c .before .before .before .before .before .r .given .1) refl (c .before .before .pair .ensures)
 
 same-length-3 : tie.Need-same-length-3
 same-length-3 c = search needs
 
 returns-3 : tie.Need-returns-3
-returns-3 c = replied (releaseTold (c .before .before .before .before .before .before .before .before .before .before .before .before .args .tables .now) (c .before .before .before .before .before .before .before .before .before .before .before .before .args .member)) _ (flag-yes (c .before .before .before .before .before .before .before .before .before .is-lent .ensures) (c .before .before .before .before .before .before .before .before .if1 .left)) (c .before .before .before .before .before .before .release .ensures .0) (c .before .before .r2 .given .1) (c .before .before .before .before .before .before .release .ensures .1) (c .code .ensures) (sym (told-none _))
+returns-3 c =
+    let s = c .before .before .before .before .before .before .before .before .before .before .before .before in
+    let e = c .before .before .before .before .before .before .release .ensures in
+    replied toldReleased (called (releaseAct (s .args .member))) (s .args .tables .now) (flag-yes (c .before .before .before .before .before .before .before .before .before .is-lent .ensures) (c .before .before .before .before .before .before .before .before .if1 .left)) e (c .before .before .r2 .given .1) (c .code .ensures) (sym (told-none _))
 
 pub snarevapor-release-spec : {M : Type 1} → statement M
 snarevapor-release-spec =

@@ -1,9 +1,9 @@
 -- `snarevapor::snarevapor_resolve` meets its contract: no loop; the reply is that of what the house answered.
-use mathlib.Core.Path.{refl, sym}
+use mathlib.Core.Path.{refl, sym, ap, _∙_}
 use lib.ListN.{length}
 use Rattle.tables.proofs.Tests.{flag-no, flag-yes}
-use Rattle.snarevapor.proofs.Replies.{lent-tables, lent-answer, told-none}
-use Rattle.snarevapor.proofs.Resolves.{resolve-short, resolve-replied}
+use Rattle.snarevapor.proofs.Replies.{lent-tables, lent-answer, told-none, short-replied, replied-of, counts-short, counts-long}
+use Rattle.calls.specs.Telling.{toldResolved}
 use borrow.Author.Needs.{needs}
 use Rattle.snarevapor.proofs.snarevapor_resolve.Statement.{statement}
 use Rattle.snarevapor.proofs.snarevapor_resolve.Tie as tie
@@ -12,7 +12,9 @@ is-lent-requires : tie.Need-is-lent-requires
 is-lent-requires c κs = search needs
 
 returns : tie.Need-returns
-returns c = resolve-short (c .before .before .before .before .before .args .tables .now) (c .before .before .before .before .before .args .counts .now) (c .before .before .before .before .before .args .answer .now) (flag-no (c .before .is-lent .ensures) (c .if1 .taken))
+returns c =
+    let e = flag-no (c .before .is-lent .ensures) (c .if1 .taken) in
+    (short-replied _ e, counts-short _ _ e)
 
 resolve-requires : tie.Need-resolve-requires
 resolve-requires c κs = lent-tables _ _ (flag-yes (c .before .before .before .is-lent .ensures) (c .before .before .if1 .left))
@@ -39,7 +41,10 @@ same-length-3 : tie.Need-same-length-3
 same-length-3 c = search needs
 
 returns-2 : tie.Need-returns-2
-returns-2 c = resolve-replied (c .before .before .before .before .before .before .before .before .before .before .before .before .before .before .before .before .before .before .before .args .tables .now) (c .before .before .before .before .before .before .before .before .before .before .before .before .before .before .before .before .before .before .before .args .counts .now) (c .before .before .before .before .before .before .before .before .before .before .before .before .before .before .before .before .before .before .before .args .answer .now) _ _ _ (c .before .before .before .before .before .before .before .before .before .before .before .resolve .ensures) (flag-yes (c .before .before .before .before .before .before .before .before .before .before .before .before .before .before .before .is-lent .ensures) (c .before .before .before .before .before .before .before .before .before .before .before .before .before .before .if1 .left)) (c .before .before .before .before .before .r .given .1) refl (c .before .before .resolution .ensures)
+returns-2 c =
+    let e = c .before .before .before .before .before .before .before .before .before .before .before .resolve .ensures in
+    let long = flag-yes (c .before .before .before .before .before .before .before .before .before .before .before .before .before .before .before .is-lent .ensures) (c .before .before .before .before .before .before .before .before .before .before .before .before .before .before .if1 .left) in
+    (replied-of _ long (ap toldResolved (sym (c .before .before .before .before .before .r .given .1) ∙ e .0 .0)) (e .0 .1) refl (c .before .before .resolution .ensures), counts-long _ _ long (e .1))
 
 same-length-4 : tie.Need-same-length-4
 same-length-4 c = search needs
@@ -48,7 +53,10 @@ same-length-5 : tie.Need-same-length-5
 same-length-5 c = search needs
 
 returns-3 : tie.Need-returns-3
-returns-3 c = resolve-replied (c .before .before .before .before .before .before .before .before .before .before .before .before .before .before .before .before .args .tables .now) (c .before .before .before .before .before .before .before .before .before .before .before .before .before .before .before .before .args .counts .now) (c .before .before .before .before .before .before .before .before .before .before .before .before .before .before .before .before .args .answer .now) _ _ _ (c .before .before .before .before .before .before .before .before .resolve .ensures) (flag-yes (c .before .before .before .before .before .before .before .before .before .before .before .before .is-lent .ensures) (c .before .before .before .before .before .before .before .before .before .before .before .if1 .left)) (c .before .before .r2 .given .1) (c .code .ensures) (sym (told-none _))
+returns-3 c =
+    let e = c .before .before .before .before .before .before .before .before .resolve .ensures in
+    let long = flag-yes (c .before .before .before .before .before .before .before .before .before .before .before .before .is-lent .ensures) (c .before .before .before .before .before .before .before .before .before .before .before .if1 .left) in
+    (replied-of _ long (ap toldResolved (sym (c .before .before .r2 .given .1) ∙ e .0 .0)) (e .0 .1) (c .code .ensures) (sym (told-none _)), counts-long _ _ long (e .1))
 
 pub snarevapor-resolve-spec : {M : Type 1} → statement M
 snarevapor-resolve-spec =

@@ -1,7 +1,9 @@
 -- `snarevapor::snarevapor_submit` meets its contract: no loop; the reply is that of what the house answered.
 use mathlib.Core.Path.{refl}
 use Rattle.tables.proofs.Tests.{flag-no, flag-yes}
-use Rattle.calls.specs.Submit.{submitTold}
+use Rattle.answers.specs.Outcome.{called}
+use Rattle.entry.specs.Submit.{submitAct}
+use Rattle.calls.specs.Telling.{toldSubmitted}
 use Rattle.snarevapor.proofs.Replies.{short-stored, stored}
 use borrow.Author.Tests.{leb-true}
 use borrow.Author.Needs.{needs}
@@ -30,13 +32,19 @@ same-length : tie.Need-same-length
 same-length c = search needs
 
 returns-2 : tie.Need-returns-2
-returns-2 c = stored (submitTold (c .before .before .before .before .before .before .before .before .before .args .tables .now) (c .before .before .before .before .before .before .before .before .before .args .payer) (c .before .before .before .before .before .before .before .before .before .args .number) (c .before .before .before .before .before .before .before .before .before .args .payee) (c .before .before .before .before .before .before .before .before .before .args .amount)) _ (flag-yes (c .before .before .before .before .before .before .before .is-roomy .ensures) (c .before .before .before .before .before .before .if1 .left)) (c .before .before .before .before .submit .ensures .0) (c .enum-told .given .1) (c .before .before .before .before .submit .ensures .1) refl
+returns-2 c =
+    let s = c .before .before .before .before .before .before .before .before .before in
+    let e = c .before .before .before .before .submit .ensures in
+    stored toldSubmitted (called (submitAct (s .args .payer) (s .args .number) (s .args .payee) (s .args .amount))) (s .args .tables .now) (flag-yes (c .before .before .before .before .before .before .before .is-roomy .ensures) (c .before .before .before .before .before .before .if1 .left)) e (c .enum-told .given .1) refl
 
 same-length-2 : tie.Need-same-length-2
 same-length-2 c = search needs
 
 returns-3 : tie.Need-returns-3
-returns-3 c = stored (submitTold (c .before .before .before .before .before .before .before .before .before .before .before .args .tables .now) (c .before .before .before .before .before .before .before .before .before .before .before .args .payer) (c .before .before .before .before .before .before .before .before .before .before .before .args .number) (c .before .before .before .before .before .before .before .before .before .before .before .args .payee) (c .before .before .before .before .before .before .before .before .before .before .before .args .amount)) _ (flag-yes (c .before .before .before .before .before .before .before .before .before .is-roomy .ensures) (c .before .before .before .before .before .before .before .before .if1 .left)) (c .before .before .before .before .before .before .submit .ensures .0) (c .before .before .r .given .1) (c .before .before .before .before .before .before .submit .ensures .1) (c .code .ensures)
+returns-3 c =
+    let s = c .before .before .before .before .before .before .before .before .before .before .before in
+    let e = c .before .before .before .before .before .before .submit .ensures in
+    stored toldSubmitted (called (submitAct (s .args .payer) (s .args .number) (s .args .payee) (s .args .amount))) (s .args .tables .now) (flag-yes (c .before .before .before .before .before .before .before .before .before .is-roomy .ensures) (c .before .before .before .before .before .before .before .before .if1 .left)) e (c .before .before .r .given .1) (c .code .ensures)
 
 pub snarevapor-submit-spec : {M : Type 1} → statement M
 snarevapor-submit-spec =

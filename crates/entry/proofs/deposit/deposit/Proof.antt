@@ -1,21 +1,29 @@
 -- `entry::deposit::deposit` meets its contract: no loop; a judgement that found nothing gives what `credit` asks.
 use borrow.Author.Needs.{needs}
-use mathlib.Core.Path.{_≡_, refl, sym, ap, _∙_}
+use mathlib.Core.Path.{_≡_, sym, ap₂, _∙_}
 use native.Mathlib.Omega.{arith}
 use Rattle.rule.proofs.Ints.{plain}
-use Rattle.tables.proofs.Houses.{holds-bounded}
+use Rattle.tables.specs.Layout.{Tables, tables}
+use Rattle.tables.proofs.Balances.{accounts-bounded}
+use Rattle.answers.specs.Codes.{first}
+use Rattle.answers.specs.Outcome.{outcome}
 use Rattle.answers.specs.declared.Judged.the-variants.{Fine}
 use Rattle.answers.specs.declared.Deposited.the-variants.{Done}
-use Rattle.entry.specs.Deposit.{judgeDeposit, answerDeposit}
+use Rattle.answers.proofs.Outcomes.{held-fine, held-bad}
+use Rattle.entry.specs.Deposit.{depositTests, depositedIn, depositAct}
 use Rattle.entry.proofs.Judging.{Deposits, deposit-fine}
 use Rattle.entry.proofs.deposit.deposit.Statement.{statement}
 use Rattle.entry.proofs.deposit.deposit.Tie as tie
 
-fine : (c : tie.After-enum-told) → let s = c .before .before .before .before .before in judgeDeposit (s .args .accounts .now) (s .args .counters .now) (s .args .member) (s .args .amount) ≡ Fine
+abbrev lent : tie.Start → Tables
+lent s = tables (s .args .accounts .now) (s .args .counters .now) (s .args .pays .now)
+
+fine : (c : tie.After-enum-told) → let s = c .before .before .before .before .before .before in first (depositAct (s .args .member) (s .args .amount) .tests (lent s)) ≡ Fine
+unfolding depositAct
 fine c = sym (c .before .before .judge-deposit .ensures) ∙ c .enum-told .given .1
 
-accepted : (c : tie.After-enum-told) → let s = c .before .before .before .before .before in Deposits (s .args .accounts .now) (s .args .counters .now) (s .args .member) (s .args .amount)
-accepted c = deposit-fine _ _ _ _ (fine c)
+accepted : (c : tie.After-enum-told) → let s = c .before .before .before .before .before .before in Deposits (lent s) (s .args .member) (s .args .amount)
+accepted c = deposit-fine (fine c)
 
 judge-deposit-requires : tie.Need-judge-deposit-requires
 judge-deposit-requires c κs = search needs
@@ -32,27 +40,29 @@ sub-credit c = accepted (c .before) .one
 credit-requires : tie.Need-credit-requires
 credit-requires c κs =
     let d = accepted (c .before) in
-    let h = c .before .before .before .before .before .before .pre .holds in
-    (holds-bounded h, (omega (arith, h .few), d .small))
+    let h = c .before .before .before .before .before .before .before .pre in
+    (accounts-bounded (h .accounts), (omega (arith, h .counters .few), d .small))
 
 same-length : tie.Need-same-length
 same-length c = search needs
 
 returns : tie.Need-returns
+unfolding depositAct
 returns c =
-    let s = c .before .before .before .before .before .before in
-    (sym (ap (answerDeposit (s .args .accounts .now) (s .args .member) (s .args .amount)) (sym (c .before .before .before .judge-deposit .ensures) ∙ c .before .j .given .1)), refl)
+    let s = c .before .before .before .before .before .before .before in
+    sym (held-bad (depositAct (s .args .member) (s .args .amount)) (lent s) (sym (c .before .before .before .judge-deposit .ensures) ∙ c .before .j .given .1))
 
 same-length-2 : tie.Need-same-length-2
 same-length-2 c = search needs
 
 returns-2 : tie.Need-returns-2
+unfolding depositAct depositedIn
 returns-2 c =
-    let s = c .before .before .before .before .before .before .before .before in
+    let s = c .before .before .before .before .before .before .before .before .before in
     let r = c .before .credit .ok in
     let e = c .before .credit .ensures in
-    let a = answerDeposit (s .args .accounts .now) (s .args .member) (s .args .amount) in
-    (simp plain (ap Done (e .0) ∙ sym (ap a (fine (c .before .before .before)))), e .1)
+    simp plain (ap₂ (λ b a. outcome (Done b) (tables a (s .args .counters .now) (s .args .pays .now))) (e .0) (e .1)
+    ∙ sym (held-fine (depositAct (s .args .member) (s .args .amount)) (lent s) (fine (c .before .before .before))))
 
 pub deposit-spec : {M : Type 1} → statement M
 deposit-spec =

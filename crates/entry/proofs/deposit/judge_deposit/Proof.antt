@@ -8,7 +8,7 @@ use lib.Signed.{leZ}
 use mir.Syntax.{w64}
 use mir.Val.{SFits}
 use Rattle.rule.proofs.Ints.{ints, plus, plain, ends, ≤ℤ-is}
-use Rattle.tables.proofs.Houses.{holds-bounded, money-fits}
+use Rattle.tables.proofs.Balances.{accounts-bounded, money-fits}
 use Rattle.tables.proofs.Tests.{flag-no, flag-yes}
 use Rattle.tables.specs.Layout.{moneyOf}
 use Rattle.tables.specs.Sizes.{most}
@@ -53,7 +53,7 @@ returns-2 : tie.Need-returns-2
 returns-2 c = rw (member (c .before .before), flag-no (c .before .is-amount .ensures) (c .if2 .taken))
 
 total-requires : tie.Need-total-requires
-total-requires c κs = holds-bounded (c .before .before .before .before .before .pre .holds)
+total-requires c κs = accounts-bounded (c .before .before .before .before .before .pre .1)
 
 signed-requires : tie.Need-signed-requires
 signed-requires c κs = omega (arith, amount-in (c .before .before .before .before .before .before .args .amount) (amount (c .before)))
@@ -62,7 +62,7 @@ plus-requires : tie.Need-plus-requires
 plus-requires c κs =
     let s = c .before .before .before .before .before .before .before in
     let z = moneyOf (s .args .accounts .now) in
-    let h = s .pre .holds in
+    let h = s .pre .1 in
     let f : SFits w64 (moneyOf (s .args .accounts .now) +ℤ pos (s .args .amount)) = omega (ints, ≤ℤ-is z (pos most) (h .sum), ends z (money-fits h), amount-in (s .args .amount) (amount (c .before .before)), plus z (pos (s .args .amount))) in
     let r = c .before .total .ok in
     let q = c .signed .ok in

@@ -8,11 +8,11 @@ use lib.Dec.{eqb, leb}
 use Rattle.tables.proofs.Tests.{flag-no, flag-yes}
 use Rattle.tables.specs.Layout.{waitingOf}
 use Rattle.tables.specs.Sizes.{places}
-use Rattle.answers.specs.Codes.{isMember, isAmount}
+use Rattle.answers.specs.Codes.{first, isMember, isAmount}
 use Rattle.answers.specs.declared.Refusal.the-variants.{Full}
 use Rattle.answers.specs.declared.Judged.the-variants.{Fine, Bad}
 use Rattle.answers.proofs.Judging.{member-in}
-use Rattle.entry.specs.Submit.{isNext, judgeSubmit}
+use Rattle.entry.specs.Submit.{isNext, submitTests}
 use Rattle.entry.proofs.submit.judge_submit.Statement.{statement}
 use Rattle.entry.proofs.submit.judge_submit.Tie as tie
 
@@ -35,7 +35,7 @@ read : (c : tie.After-wide) → c .wide .result ≡ waitingOf (c .before .before
 read c = c .wide .ensures
 
 -- what is left to test at last
-left : (c : tie.Else5) → let s = c .before .before .before .before .before .before .before .before .before .before .args in judgeSubmit (s .counters .now) (s .payer) (s .number) (s .payee) (s .amount) ≡ cond (leb places (waitingOf (s .counters .now))) (Bad Full) Fine
+left : (c : tie.Else5) → let s = c .before .before .before .before .before .before .before .before .before .before .args in first (submitTests (s .counters .now) (s .payer) (s .number) (s .payee) (s .amount)) ≡ cond (leb places (waitingOf (s .counters .now))) (Bad Full) Fine
 left c = rw (payer (c .before .before .before .before .before .before .before), payee (c .before .before .before .before .before), apart (c .before .before .before .before), amount (c .before .before), next c)
 
 is-member-requires : tie.Need-is-member-requires

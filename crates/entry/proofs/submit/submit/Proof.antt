@@ -1,21 +1,31 @@
 -- `entry::submit::submit` meets its contract: no loop; a judgement that found nothing gives what the three steps ask.
 use borrow.Author.Needs.{needs}
-use mathlib.Core.Path.{_≡_, refl, sym, ap, _∙_}
-use Prim.Native.Nat.{_-_}
+use mathlib.Core.Path.{_≡_, sym, ap₂, _∙_}
+use mathlib.Core.List.{List}
+use Prim.Native.Nat.{ℕ, _-_}
 use native.Mathlib.Omega.{arith}
 use Rattle.rule.specs.Payment.{word}
-use Rattle.tables.specs.Layout.{waitingOf}
+use Rattle.tables.specs.Layout.{Tables, tables, waitingOf}
+use Rattle.answers.specs.Codes.{first}
+use Rattle.answers.specs.Outcome.{outcome}
 use Rattle.answers.specs.declared.Judged.the-variants.{Fine}
-use Rattle.entry.specs.Submit.{judgeSubmit, answerSubmit}
+use Rattle.answers.specs.declared.Submitted.the-variants.{Done}
+use Rattle.answers.proofs.Outcomes.{held-fine, held-bad}
+use Rattle.entry.specs.Submit.{submittedIn, submitAct}
 use Rattle.entry.proofs.Judging.{Submits, submit-fine}
 use Rattle.entry.proofs.submit.submit.Statement.{statement}
 use Rattle.entry.proofs.submit.submit.Tie as tie
 
-fine : (c : tie.After-enum-told) → let s = c .before .before .before .before .before .before in judgeSubmit (s .args .counters .now) (s .args .payer) (s .args .number) (s .args .payee) (s .args .amount) ≡ Fine
+abbrev lent : tie.Start → Tables
+lent s = tables (s .args .accounts .now) (s .args .counters .now) (s .args .pays .now)
+
+fine : (c : tie.After-enum-told) → let s = c .before .before .before .before .before .before in
+    first (submitAct (s .args .payer) (s .args .number) (s .args .payee) (s .args .amount) .tests (lent s)) ≡ Fine
+unfolding submitAct
 fine c = sym (c .before .before .judge-submit .ensures) ∙ c .enum-told .given .1
 
-accepted : (c : tie.After-enum-told) → let s = c .before .before .before .before .before .before in Submits (s .args .counters .now) (s .args .payer) (s .args .number) (s .args .payee) (s .args .amount)
-accepted c = submit-fine _ _ _ _ _ (fine c)
+accepted : (c : tie.After-enum-told) → let s = c .before .before .before .before .before .before in Submits (lent s) (s .args .payer) (s .args .number) (s .args .payee) (s .args .amount)
+accepted c = submit-fine (fine c)
 
 read : (c : tie.After-wide) → c .wide .result ≡ waitingOf (c .before .before .before .before .before .before .before .before .args .counters .now)
 read c = c .wide .ensures
@@ -36,19 +46,22 @@ wide-requires : tie.Need-wide-requires
 wide-requires c κs = search needs
 
 payment-requires : tie.Need-payment-requires
-payment-requires c κs = let k = accepted (c .before .before .before) in let f = c .before .before .before .before .before .before .before .before .before .pre .holds .few in (k .one, omega arith, k .to, omega arith, k .small)
+payment-requires c κs = let k = accepted (c .before .before .before) in let f = c .before .before .before .before .before .before .before .before .before .pre .counters .few in (k .one, omega arith, k .to, omega arith, k .small)
 
 append-requires : tie.Need-append-requires
-append-requires c κs = let u = read (c .before .before) in omega (arith, accepted (c .before .before .before .before) .room, c .before .before .before .before .before .before .before .before .before .before .pre .holds .deep)
+append-requires c κs = let u = read (c .before .before) in omega (arith, accepted (c .before .before .before .before) .room, c .before .before .before .before .before .before .before .before .before .before .pre .places .deep)
 
 accept-requires : tie.Need-accept-requires
-accept-requires c κs = let k = accepted (c .before .before .before .before .before .before .before .before) in let h = c .before .before .before .before .before .before .before .before .before .before .before .before .before .before .pre .holds in (h .broad, k .one, omega (arith, k .within, h .few), k .room, k .fits)
+accept-requires c κs = let k = accepted (c .before .before .before .before .before .before .before .before) in let h = c .before .before .before .before .before .before .before .before .before .before .before .before .before .before .pre in (h .counters .broad, k .one, omega (arith, k .within, h .counters .few), k .room, k .fits)
 
 same-length : tie.Need-same-length
 same-length c = search needs
 
 returns : tie.Need-returns
-returns c = (sym (ap answerSubmit (sym (c .before .before .before .judge-submit .ensures) ∙ c .before .j .given .1)), (refl, refl))
+unfolding submitAct
+returns c =
+    let s = c .before .before .before .before .before .before .before in
+    sym (held-bad (submitAct (s .args .payer) (s .args .number) (s .args .payee) (s .args .amount)) (lent s) (sym (c .before .before .before .judge-submit .ensures) ∙ c .before .j .given .1))
 
 same-length-2 : tie.Need-same-length-2
 same-length-2 c = search needs
@@ -57,10 +70,12 @@ same-length-3 : tie.Need-same-length-3
 same-length-3 c = search needs
 
 returns-2 : tie.Need-returns-2
+unfolding submitAct submittedIn
 returns-2 c =
     let s = c .before .before .before .before .before .before .before .before .before .before .before .before .before .before .before .before .before in
     let w : c .before .before .before .before .before .before .before .payment .result ≡ word (s .args .payer - 1) (s .args .payee - 1) (s .args .amount) = c .before .before .before .before .before .before .before .payment .ensures in
-    (sym (ap answerSubmit (fine (c .before .before .before .before .before .before .before .before .before .before .before))), (c .before .before .accept .ensures, rw (read (c .before .before .before .before .before .before .before .before .before), w) at (c .before .before .before .before .before .before .append .ensures)))
+    ap₂ (λ (c : List ℕ) (p : List ℕ). outcome Done (tables (s .args .accounts .now) c p)) (c .before .before .accept .ensures) (rw (read (c .before .before .before .before .before .before .before .before .before), w) at (c .before .before .before .before .before .before .append .ensures))
+    ∙ sym (held-fine (submitAct (s .args .payer) (s .args .number) (s .args .payee) (s .args .amount)) (lent s) (fine (c .before .before .before .before .before .before .before .before .before .before .before)))
 
 pub submit-spec : {M : Type 1} → statement M
 submit-spec =

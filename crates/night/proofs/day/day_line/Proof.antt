@@ -1,12 +1,5 @@
 -- `night::day::day_line` meets its contract: no loop; each kind of line is a case.
 use Rattle.night.proofs.Stages.{read-group}
-use Rattle.night.proofs.DayLines.{pay-did, booked-did, deposit-did}
-use Rattle.night.specs.Lines.{tables, largestIn}
-use Rattle.settling.specs.Group.{heldGroup, isGrouped}
-use Rattle.settling.specs.Release.{heldRelease, isReleased, onlyHead}
-use Rattle.booking.specs.Booking.{listed}
-use lib.ListN.{take}
-use mathlib.Core.Bool.{true}
 use borrow.Author.Needs.{needs}
 use Rattle.night.proofs.day.day_line.Statement.{statement}
 use Rattle.night.proofs.day.day_line.Tie as tie
@@ -92,23 +85,14 @@ same-length c = search needs
 same-length-2 : tie.Need-same-length-2
 same-length-2 c = search needs
 
-returns-3 : tie.Need-returns-3
-returns-3 c =
-    let s = c .before .before .before .before .before .before .before .before .before .before .before .before .before .before .args in
-    let p = c .before .before .before .before .before .pay in
-    pay-did (s .n) (tables (c .before .before .before .before .before .before .before .before .before .before .before .before .before .before .args .accounts .now) (c .before .before .before .before .before .before .before .before .before .before .before .before .before .before .args .counters .now) (c .before .before .before .before .before .before .before .before .before .before .before .before .before .before .args .pays .now)) (s .e) (s .counts .now) (c .says .result) (p .result) (c .says .ensures) _ _ _ _ _ _ (c .before .before .before .before .before .before .before .before .before .e .given .1) (p .ensures .0) (p .ensures .1 .0) (p .ensures .1 .1)
-
 same-length-3 : tie.Need-same-length-3
 same-length-3 c = search needs
 
+returns-3 : tie.Need-returns-3
+returns-3 c = rw (c .says .ensures, c .before .before .before .before .before .before .before .before .before .before .e .given .1) (c .before .before .before .before .before .pay .ensures)
+
 same-length-4 : tie.Need-same-length-4
 same-length-4 c = search needs
-
-returns-4 : tie.Need-returns-4
-returns-4 c =
-    let s = c .before .before .before .before .before .before .before .before .before .before .before .args in
-    let p = c .before .before .deposit in
-    deposit-did (s .n) (tables (c .before .before .before .before .before .before .before .before .before .before .before .args .accounts .now) (c .before .before .before .before .before .before .before .before .before .before .before .args .counters .now) (c .before .before .before .before .before .before .before .before .before .before .before .args .pays .now)) (s .e) (s .counts .now) (c .says2 .result) (p .result) (c .says2 .ensures) _ _ _ (c .before .before .before .before .before .before .e2 .given .1) (p .ensures .0) (p .ensures .1)
 
 same-length-5 : tie.Need-same-length-5
 same-length-5 c = search needs
@@ -116,14 +100,11 @@ same-length-5 c = search needs
 same-length-6 : tie.Need-same-length-6
 same-length-6 c = search needs
 
+returns-4 : tie.Need-returns-4
+returns-4 c = rw (c .says2 .ensures, c .before .before .before .before .before .before .before .e2 .given .1) (c .before .before .deposit .ensures)
+
 same-length-7 : tie.Need-same-length-7
 same-length-7 c = search needs
-
-returns-5 : tie.Need-returns-5
-returns-5 c =
-    let s = c .before .before .before .before .before .before .before .before .before .before .before .before .before .before .before .before .args in
-    let p = c .before .before .before .before .before .before .release in
-    booked-did (s .n) (tables (c .before .before .before .before .before .before .before .before .before .before .before .before .before .before .before .before .args .accounts .now) (c .before .before .before .before .before .before .before .before .before .before .before .before .before .before .before .before .args .counters .now) (c .before .before .before .before .before .before .before .before .before .before .before .before .before .before .before .before .args .pays .now)) (s .e) (s .counts .now) (c .says3 .result) (p .result) (c .says3 .ensures) (onlyHead (c .before .before .before .before .before .before .before .before .before .before .before .e3 .given .0 .0)) (isReleased (heldRelease (s .accounts .now) (s .counters .now) (s .pays .now) (c .before .before .before .before .before .before .before .before .before .before .before .e3 .given .0 .0))) (tables (p .last .0) (p .last .1 .0) (p .last .1 .1 .0)) (p .ensures .1) (rw (c .before .before .before .before .before .before .before .before .before .before .before .e3 .given .1, p .ensures .0))
 
 same-length-8 : tie.Need-same-length-8
 same-length-8 c = search needs
@@ -131,14 +112,11 @@ same-length-8 c = search needs
 same-length-9 : tie.Need-same-length-9
 same-length-9 c = search needs
 
+returns-5 : tie.Need-returns-5
+returns-5 c = rw (c .says3 .ensures, c .before .before .before .before .before .before .before .before .before .before .before .e3 .given .1) (c .before .before .before .before .before .before .release .ensures)
+
 same-length-10 : tie.Need-same-length-10
 same-length-10 c = search needs
-
-returns-6 : tie.Need-returns-6
-returns-6 c =
-    let s = c .before .before .before .before .before .before .before .before .before .before .before .before .before .before .before .before .args in
-    let p = c .before .before .before .before .before .before .group in
-    booked-did (s .n) (tables (c .before .before .before .before .before .before .before .before .before .before .before .before .before .before .before .before .args .accounts .now) (c .before .before .before .before .before .before .before .before .before .before .before .before .before .before .before .before .args .counters .now) (c .before .before .before .before .before .before .before .before .before .before .before .before .before .before .before .before .args .pays .now)) (s .e) (s .counts .now) (c .says4 .result) (p .result) (c .says4 .ensures) (listed (take (c .before .before .before .before .before .before .before .before .before .before .before .e4 .given .0 .0) (s .counts .now))) (isGrouped (heldGroup (s .accounts .now) (s .counters .now) (s .pays .now) (take (c .before .before .before .before .before .before .before .before .before .before .before .e4 .given .0 .0) (s .counts .now)))) (tables (p .last .0) (p .last .1 .0) (p .last .1 .1 .0)) (p .ensures .1) (rw (c .before .before .before .before .before .before .before .before .before .before .before .e4 .given .1, p .ensures .0))
 
 same-length-11 : tie.Need-same-length-11
 same-length-11 c = search needs
@@ -146,14 +124,20 @@ same-length-11 c = search needs
 same-length-12 : tie.Need-same-length-12
 same-length-12 c = search needs
 
+returns-6 : tie.Need-returns-6
+returns-6 c = rw (c .says4 .ensures, c .before .before .before .before .before .before .before .before .before .before .before .e4 .given .1) (c .before .before .before .before .before .before .group .ensures)
+
 same-length-13 : tie.Need-same-length-13
 same-length-13 c = search needs
 
+same-length-14 : tie.Need-same-length-14
+same-length-14 c = search needs
+
+same-length-15 : tie.Need-same-length-15
+same-length-15 c = search needs
+
 returns-7 : tie.Need-returns-7
-returns-7 c =
-    let s = c .before .before .before .before .before .before .before .before .before .before .before .before .before .before .before .args in
-    let p = c .before .before .before .before .before .before .resolve in
-    booked-did (s .n) (tables (c .before .before .before .before .before .before .before .before .before .before .before .before .before .before .before .args .accounts .now) (c .before .before .before .before .before .before .before .before .before .before .before .before .before .before .before .args .counters .now) (c .before .before .before .before .before .before .before .before .before .before .before .before .before .before .before .args .pays .now)) (s .e) (s .counts .now) (c .says5 .result) (p .result) (c .says5 .ensures) (listed (largestIn (tables (c .before .before .before .before .before .before .before .before .before .before .before .before .before .before .before .args .accounts .now) (c .before .before .before .before .before .before .before .before .before .before .before .before .before .before .before .args .counters .now) (c .before .before .before .before .before .before .before .before .before .before .before .before .before .before .before .args .pays .now)))) true (tables (p .last .0) (p .last .1 .0) (p .last .1 .1 .0)) (p .ensures .1) (rw (c .before .before .before .before .before .before .before .before .before .before .enum-told3 .given .1, p .ensures .0))
+returns-7 c = rw (c .says5 .ensures, c .before .before .before .before .before .before .before .before .before .before .enum-told3 .given .1) (c .before .before .before .before .before .before .resolve .ensures)
 
 returns-8 : tie.Need-returns-8
 returns-8 c = rw (c .quiet .ensures, c .before .enum-told4 .given .1)
@@ -192,21 +176,23 @@ day-line-spec =
     returns-2
     same-length
     same-length-2
-    returns-3
     same-length-3
+    returns-3
     same-length-4
-    returns-4
     same-length-5
     same-length-6
+    returns-4
     same-length-7
-    returns-5
     same-length-8
     same-length-9
+    returns-5
     same-length-10
-    returns-6
     same-length-11
     same-length-12
+    returns-6
     same-length-13
+    same-length-14
+    same-length-15
     returns-7
     returns-8
     returns-9)

@@ -1,10 +1,8 @@
 -- `night::day::deposit` meets its contract: no loop.
-use Rattle.night.specs.Lines.{depositSays}
-use Rattle.entry.specs.Deposit.{isDeposited, accountsDeposited}
-use Rattle.answers.specs.declared.Deposited.{Deposited}
+use mathlib.Core.Path.{ap}
+use Rattle.answers.proofs.Outcomes.{answer-is}
 use Rattle.rule.proofs.Ints.{plain}
-use mathlib.Core.Bool.{cond}
-use mathlib.Core.Path.{sym, ap, _∙_}
+use Rattle.night.specs.Lines.{lineOf, depositSays}
 use borrow.Author.Needs.{needs}
 use Rattle.night.proofs.day.deposit.Statement.{statement}
 use Rattle.night.proofs.day.deposit.Tie as tie
@@ -25,24 +23,13 @@ same-length : tie.Need-same-length
 same-length c = search needs
 
 returns : tie.Need-returns
-returns c =
-    let s = c .before .before .before .before .before .before .before .args in
-    let e = c .before .before .before .before .deposit .ensures in
-    let f = c .known-told .given .0 .1 in (
-      simp plain (ap (depositSays (s .n) (s .member)) (sym (c .before .r .given .1) ∙ e .0)),
-      e .1 ∙ ap (λ (r : Deposited). cond (isDeposited r) (accountsDeposited (s .accounts .now) (s .member) (s .amount)) (s .accounts .now)) (e .0),
-    )
+returns c = let s = c .before .before .before .before .before .before .before .before .args in let f = c .known-told .given .0 .1 in simp plain (ap (lineOf (depositSays (s .n) (s .member))) (answer-is (c .before .r .given .1) (c .before .before .before .before .deposit .ensures)))
 
 same-length-2 : tie.Need-same-length-2
 same-length-2 c = search needs
 
 returns-2 : tie.Need-returns-2
-returns-2 c =
-    let s = c .before .before .before .before .before .before .before .before .args in
-    let e = c .before .before .before .before .before .deposit .ensures in (
-      c .refused .ensures ∙ ap (depositSays (s .n) (s .member)) (sym (c .before .before .r2 .given .1) ∙ e .0),
-      e .1 ∙ ap (λ (r : Deposited). cond (isDeposited r) (accountsDeposited (s .accounts .now) (s .member) (s .amount)) (s .accounts .now)) (e .0),
-    )
+returns-2 c = let s = c .before .before .before .before .before .before .before .before .before .args in rw (c .refused .ensures) (ap (lineOf (depositSays (s .n) (s .member))) (answer-is (c .before .before .r2 .given .1) (c .before .before .before .before .before .deposit .ensures)))
 
 pub deposit-spec : {M : Type 1} → statement M
 deposit-spec =

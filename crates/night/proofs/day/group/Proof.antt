@@ -1,11 +1,11 @@
 -- `night::day::group` meets its contract: no loop.
-use Rattle.night.proofs.Settling.{booked-after, group-narrowed}
-use Rattle.night.specs.Lines.{tables, groupSays}
-use Rattle.settling.specs.Group.{isGrouped}
-use Rattle.booking.specs.Booking.{listed}
-use lib.ListN.{take, length-take}
-use mathlib.Core.Path.{sym, ap, _∙_}
+use mathlib.Core.Path.{ap, _∙_}
+use lib.ListN.{length-take}
 use native.Mathlib.Omega.{arith}
+use Rattle.tables.specs.Layout.{tables}
+use Rattle.answers.proofs.Outcomes.{answer-is}
+use Rattle.night.specs.Lines.{lineOf, groupSays}
+use Rattle.night.proofs.Settling.{group-narrowed}
 use borrow.Author.Needs.{needs}
 use Rattle.night.proofs.day.group.Statement.{statement}
 use Rattle.night.proofs.day.group.Tie as tie
@@ -41,14 +41,7 @@ same-length-3 : tie.Need-same-length-3
 same-length-3 c = search needs
 
 returns : tie.Need-returns
-returns c =
-    let s = c .before .before .before .before .before .before .before .before .before .before .before .before .before .before .before .before .before in
-    let e = c .before .before .before .before .before .before .before .before .group .ensures in
-    let r = c .before .before .before .before .before .before .before .before .before .before .before .before .before .narrowed in
-    let d = group-narrowed (tables (c .before .before .before .before .before .before .before .before .before .before .before .before .before .before .before .before .before .args .accounts .now) (c .before .before .before .before .before .before .before .before .before .before .before .before .before .before .before .before .before .args .counters .now) (c .before .before .before .before .before .before .before .before .before .before .before .before .before .before .before .before .before .args .pays .now)) (s .pre .0) (s .args .m) (s .args .counts .now) (r .result) (s .pre .1) (s .pre .2) (r .ensures .0) (r .ensures .1) in (
-      ap (groupSays (s .args .n)) (sym (c .before .r .given .1) ∙ e .0 ∙ d .0),
-      booked-after (tables (c .before .before .before .before .before .before .before .before .before .before .before .before .before .before .before .before .before .args .accounts .now) (c .before .before .before .before .before .before .before .before .before .before .before .before .before .before .before .before .before .args .counters .now) (c .before .before .before .before .before .before .before .before .before .before .before .before .before .before .before .before .before .args .pays .now)) (listed (take (s .args .m) (r .result))) _ _ _ _ _ (ap isGrouped (e .0)) (e .1 .0) (e .1 .1 .0) (e .1 .1 .1) ∙ d .1,
-    )
+returns c = let s = c .before .before .before .before .before .before .before .before .before .before .before .before .before .before .before .before .before in ap (lineOf (groupSays (s .args .n))) (answer-is (c .before .r .given .1) (c .before .before .before .before .before .before .before .before .group .ensures ∙ group-narrowed (tables (s .args .accounts .now) (s .args .counters .now) (s .args .pays .now)) (s .pre .0) (s .args .m) (s .args .counts .now) (c .before .before .before .before .before .before .before .before .before .before .before .before .before .narrowed .result) (s .pre .1) (s .pre .2) (c .before .before .before .before .before .before .before .before .before .before .before .before .before .narrowed .ensures .0) (c .before .before .before .before .before .before .before .before .before .before .before .before .before .narrowed .ensures .1)))
 
 same-length-4 : tie.Need-same-length-4
 same-length-4 c = search needs
@@ -60,14 +53,7 @@ same-length-6 : tie.Need-same-length-6
 same-length-6 c = search needs
 
 returns-2 : tie.Need-returns-2
-returns-2 c =
-    let s = c .before .before .before .before .before .before .before .before .before .before .before .before .before .before .before .before .before .before in
-    let e = c .before .before .before .before .before .before .before .before .before .group .ensures in
-    let r = c .before .before .before .before .before .before .before .before .before .before .before .before .before .before .narrowed in
-    let d = group-narrowed (tables (c .before .before .before .before .before .before .before .before .before .before .before .before .before .before .before .before .before .before .args .accounts .now) (c .before .before .before .before .before .before .before .before .before .before .before .before .before .before .before .before .before .before .args .counters .now) (c .before .before .before .before .before .before .before .before .before .before .before .before .before .before .before .before .before .before .args .pays .now)) (s .pre .0) (s .args .m) (s .args .counts .now) (r .result) (s .pre .1) (s .pre .2) (r .ensures .0) (r .ensures .1) in (
-      c .refused .ensures ∙ ap (groupSays (s .args .n)) (sym (c .before .before .r2 .given .1) ∙ e .0 ∙ d .0),
-      booked-after (tables (c .before .before .before .before .before .before .before .before .before .before .before .before .before .before .before .before .before .before .args .accounts .now) (c .before .before .before .before .before .before .before .before .before .before .before .before .before .before .before .before .before .before .args .counters .now) (c .before .before .before .before .before .before .before .before .before .before .before .before .before .before .before .before .before .before .args .pays .now)) (listed (take (s .args .m) (r .result))) _ _ _ _ _ (ap isGrouped (e .0)) (e .1 .0) (e .1 .1 .0) (e .1 .1 .1) ∙ d .1,
-    )
+returns-2 c = let s = c .before .before .before .before .before .before .before .before .before .before .before .before .before .before .before .before .before .before in rw (c .refused .ensures) (ap (lineOf (groupSays (s .args .n))) (answer-is (c .before .before .r2 .given .1) (c .before .before .before .before .before .before .before .before .before .group .ensures ∙ group-narrowed (tables (s .args .accounts .now) (s .args .counters .now) (s .args .pays .now)) (s .pre .0) (s .args .m) (s .args .counts .now) (c .before .before .before .before .before .before .before .before .before .before .before .before .before .before .narrowed .result) (s .pre .1) (s .pre .2) (c .before .before .before .before .before .before .before .before .before .before .before .before .before .before .narrowed .ensures .0) (c .before .before .before .before .before .before .before .before .before .before .before .before .before .before .narrowed .ensures .1))))
 
 pub group-spec : {M : Type 1} → statement M
 group-spec =

@@ -1,8 +1,7 @@
 -- `night::day::release` meets its contract: no loop.
-use Rattle.night.proofs.Settling.{booked-after}
-use Rattle.night.specs.Lines.{tables, releaseSays}
-use Rattle.settling.specs.Release.{isReleased, onlyHead}
-use mathlib.Core.Path.{sym, ap, _∙_}
+use mathlib.Core.Path.{ap}
+use Rattle.answers.proofs.Outcomes.{answer-is}
+use Rattle.night.specs.Lines.{lineOf, releaseSays}
 use borrow.Author.Needs.{needs}
 use Rattle.night.proofs.day.release.Statement.{statement}
 use Rattle.night.proofs.day.release.Tie as tie
@@ -29,12 +28,7 @@ same-length-3 : tie.Need-same-length-3
 same-length-3 c = search needs
 
 returns : tie.Need-returns
-returns c =
-    let s = c .before .before .before .before .before .before .before .before .before .before .before .before .before .before .args in
-    let e = c .before .before .before .before .before .before .before .before .release .ensures in (
-      ap (releaseSays (s .n)) (sym (c .before .r .given .1) ∙ e .0),
-      booked-after (tables (c .before .before .before .before .before .before .before .before .before .before .before .before .before .before .args .accounts .now) (c .before .before .before .before .before .before .before .before .before .before .before .before .before .before .args .counters .now) (c .before .before .before .before .before .before .before .before .before .before .before .before .before .before .args .pays .now)) (onlyHead (s .member)) _ _ _ _ _ (ap isReleased (e .0)) (e .1 .0) (e .1 .1 .0) (e .1 .1 .1),
-    )
+returns c = let s = c .before .before .before .before .before .before .before .before .before .before .before .before .before .before .args in ap (lineOf (releaseSays (s .n))) (answer-is (c .before .r .given .1) (c .before .before .before .before .before .before .before .before .release .ensures))
 
 same-length-4 : tie.Need-same-length-4
 same-length-4 c = search needs
@@ -46,12 +40,7 @@ same-length-6 : tie.Need-same-length-6
 same-length-6 c = search needs
 
 returns-2 : tie.Need-returns-2
-returns-2 c =
-    let s = c .before .before .before .before .before .before .before .before .before .before .before .before .before .before .before .args in
-    let e = c .before .before .before .before .before .before .before .before .before .release .ensures in (
-      c .refused .ensures ∙ ap (releaseSays (s .n)) (sym (c .before .before .r2 .given .1) ∙ e .0),
-      booked-after (tables (c .before .before .before .before .before .before .before .before .before .before .before .before .before .before .before .args .accounts .now) (c .before .before .before .before .before .before .before .before .before .before .before .before .before .before .before .args .counters .now) (c .before .before .before .before .before .before .before .before .before .before .before .before .before .before .before .args .pays .now)) (onlyHead (s .member)) _ _ _ _ _ (ap isReleased (e .0)) (e .1 .0) (e .1 .1 .0) (e .1 .1 .1),
-    )
+returns-2 c = let s = c .before .before .before .before .before .before .before .before .before .before .before .before .before .before .before .args in rw (c .refused .ensures) (ap (lineOf (releaseSays (s .n))) (answer-is (c .before .before .r2 .given .1) (c .before .before .before .before .before .before .before .before .before .release .ensures)))
 
 pub release-spec : {M : Type 1} → statement M
 release-spec =

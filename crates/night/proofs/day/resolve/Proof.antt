@@ -1,8 +1,8 @@
 -- `night::day::resolve` meets its contract: no loop.
-use Rattle.night.proofs.Settling.{resolve-did, never-refused}
-use Rattle.night.specs.Lines.{tables}
 use lib.ListN.{take, replicate, length-take}
 use native.Mathlib.Omega.{arith}
+use Rattle.tables.specs.Layout.{tables}
+use Rattle.night.proofs.Settling.{resolve-line, never-refused}
 use borrow.Author.Needs.{needs}
 use Rattle.night.proofs.day.resolve.Statement.{statement}
 use Rattle.night.proofs.day.resolve.Tie as tie
@@ -17,7 +17,7 @@ array-borrow-prefix-k : tie.Need-array-borrow-prefix-k
 array-borrow-prefix-k c = search needs
 
 slice-aggregate-resolve : tie.Need-slice-aggregate-resolve
-slice-aggregate-resolve c = simp length-take (omega (arith, c .before .before .before .before .before .before .before .before .pre .few))
+slice-aggregate-resolve c = simp length-take (omega (arith, c .before .before .before .before .before .before .before .before .pre .counters .few))
 
 resolve-requires : tie.Need-resolve-requires
 resolve-requires c κs = search needs
@@ -45,8 +45,8 @@ same-length-3 c = search needs
 
 returns : tie.Need-returns
 returns c =
-    let e = rw (c .before .before .r .given .1) at (c .before .before .before .before .before .before .before .before .before .before .resolve .ensures) in
-    resolve-did (tables (c .before .before .before .before .before .before .before .before .before .before .before .before .before .before .before .before .before .before .before .args .accounts .now) (c .before .before .before .before .before .before .before .before .before .before .before .before .before .before .before .before .before .before .before .args .counters .now) (c .before .before .before .before .before .before .before .before .before .before .before .before .before .before .before .before .before .before .before .args .pays .now)) (c .before .before .before .before .before .before .before .before .before .before .before .before .before .before .before .before .before .before .before .pre) (c .before .before .before .before .before .before .before .before .before .before .before .before .before .before .before .before .before .before .before .args .n) (c .told .result) (e .1) (c .told .ensures)
+    let s = c .before .before .before .before .before .before .before .before .before .before .before .before .before .before .before .before .before .before .before in
+    rw (c .told .ensures) (resolve-line (tables (s .args .accounts .now) (s .args .counters .now) (s .args .pays .now)) (s .args .n) (take (c .before .before .before .before .before .before .before .before .before .before .before .before .before .before .before .wide .result) (replicate 64 0)) (s .pre) (simp length-take (omega (arith, c .before .before .before .before .before .before .before .before .before .before .before .before .before .before .before .wide .ensures, s .pre .counters .few))) (rw (c .before .before .r .given .1) at (c .before .before .before .before .before .before .before .before .before .before .resolve .ensures)))
 
 same-length-4 : tie.Need-same-length-4
 same-length-4 c = search needs
@@ -59,8 +59,8 @@ same-length-6 c = search needs
 
 returns-2 : tie.Need-returns-2
 returns-2 c =
-    let e = rw (c .before .before .r2 .given .1) at (c .before .before .before .before .before .before .before .before .before .before .resolve .ensures) in
-    absurd (never-refused (c .before .before .before .before .before .before .before .before .before .before .before .before .before .before .before .before .before .before .before .args .counters .now) (take (c .before .before .before .before .before .before .before .before .before .before .before .before .before .before .before .wide .result) (replicate 64 0)) (c .before .before .r2 .given .0 .0) (simp length-take (omega (arith, c .before .before .before .before .before .before .before .before .before .before .before .before .before .before .before .wide .ensures, c .before .before .before .before .before .before .before .before .before .before .before .before .before .before .before .before .before .before .before .pre .few))) (e .0))
+    let s = c .before .before .before .before .before .before .before .before .before .before .before .before .before .before .before .before .before .before .before in
+    absurd (never-refused (tables (s .args .accounts .now) (s .args .counters .now) (s .args .pays .now)) (take (c .before .before .before .before .before .before .before .before .before .before .before .before .before .before .before .wide .result) (replicate 64 0)) (c .before .before .r2 .given .0 .0) (simp length-take (omega (arith, c .before .before .before .before .before .before .before .before .before .before .before .before .before .before .before .wide .ensures, s .pre .counters .few))) (rw (c .before .before .r2 .given .1) at (c .before .before .before .before .before .before .before .before .before .before .resolve .ensures)))
 
 pub resolve-spec : {M : Type 1} → statement M
 resolve-spec =

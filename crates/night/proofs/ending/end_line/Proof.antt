@@ -1,7 +1,7 @@
 -- `night::ending::end_line` meets its contract: no loop.
 use Rattle.night.proofs.EndLines.{left-waits, end-balance, end-money}
-use Rattle.night.specs.Lines.{tables}
-use Rattle.tables.proofs.Houses.{holds-bounded}
+use Rattle.tables.specs.Layout.{tables}
+use Rattle.tables.proofs.Balances.{accounts-bounded}
 use Rattle.rule.proofs.Ints.{plain}
 use native.Mathlib.Omega.{arith}
 use borrow.Author.Needs.{needs}
@@ -51,7 +51,7 @@ returns : tie.Need-returns
 returns c = let g = c .t21 .given in simp plain (end-balance (tables (c .before .before .before .before .before .before .before .before .args .accounts .now) (c .before .before .before .before .before .before .before .before .args .counters .now) (c .before .before .before .before .before .before .before .before .args .pays .now)) (c .before .before .before .before .before .before .before .before .pre .holds) (c .before .before .before .before .before .before .before .before .args .k) (omega arith))
 
 total-requires : tie.Need-total-requires
-total-requires c κs = holds-bounded (c .before .before .before .before .before .pre .holds)
+total-requires c κs = accounts-bounded (c .before .before .before .before .before .pre .holds .accounts)
 
 returns-2 : tie.Need-returns-2
 returns-2 c = let g = c .total .ok in simp plain (end-money (tables (c .before .before .before .before .before .before .args .accounts .now) (c .before .before .before .before .before .before .args .counters .now) (c .before .before .before .before .before .before .args .pays .now)) (c .before .before .before .before .before .before .pre .holds) (c .before .before .before .before .before .before .args .k) (c .total .result) (c .total .ensures) (omega arith))

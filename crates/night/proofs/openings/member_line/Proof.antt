@@ -1,7 +1,7 @@
 -- `night::openings::member_line` meets its contract: no loop.
 use Rattle.night.proofs.Stages.{small-at}
 use Rattle.night.proofs.Opening.{give-did, member-none, member-other, member-given, member-opens}
-use Rattle.night.specs.Lines.{tables}
+use Rattle.tables.specs.Layout.{tables}
 use mathlib.Core.Path.{sym, _∙_}
 use native.Mathlib.Omega.{arith}
 use borrow.Author.Needs.{needs}

@@ -1,6 +1,6 @@
 -- `night::openings::open` meets its contract: no loop.
 use Rattle.night.proofs.Opening.{open-accepted, open-refused, open-did}
-use Rattle.night.specs.Lines.{tables}
+use Rattle.tables.specs.Layout.{tables}
 use lib.ListN.{length-take}
 use native.Mathlib.Omega.{arith}
 use borrow.Author.Needs.{needs}
@@ -53,9 +53,9 @@ returns : tie.Need-returns
 returns c =
     let s = c .before .before .before .before .before .before .before .before .before .before .before .before .before .before .before .before .before .before .before .before .before .args in
     let o = c .before .before .before .before .before .before .before .before .before .«open» in
-    open-did (s .n) (s .count) (tables (s .accounts .now) (s .counters .now) (s .pays .now)) (c .says .result) (o .result) _ _ _ _ _
+    open-did (s .n) (s .count) (tables (s .accounts .now) (s .counters .now) (s .pays .now)) (c .says .result) (o .result) _ _
     (open-accepted _ _ (tables (c .before .before .before .before .before .before .before .before .before .before .before .before .before .before .before .before .before .before .before .before .before .args .accounts .now) (c .before .before .before .before .before .before .before .before .before .before .before .before .before .before .before .before .before .before .before .before .before .args .counters .now) (c .before .before .before .before .before .before .before .before .before .before .before .before .before .before .before .before .before .before .before .before .before .args .pays .now)) _ _ (c .before .before .r .given .0 .0) (c .before .known-told .given .0 .1) (c .before .before .r .given .1) (c .says .ensures))
-    (c .before .before .before .before .before .before .before .before .before .before .before .before .before .before .before .before .before .block .ensures) (c .before .before .before .before .before .before .before .before .before .before .before .before .before .before .before .block2 .ensures) (o .ensures .answer) (o .ensures .accounts) (o .ensures .counters) (o .ensures .pays)
+    (c .before .before .before .before .before .before .before .before .before .before .before .before .before .before .before .before .before .block .ensures) (c .before .before .before .before .before .before .before .before .before .before .before .before .before .before .before .block2 .ensures) (o .ensures)
 
 same-length-4 : tie.Need-same-length-4
 same-length-4 c = search needs
@@ -70,9 +70,9 @@ returns-2 : tie.Need-returns-2
 returns-2 c =
     let s = c .before .before .before .before .before .before .before .before .before .before .before .before .before .before .before .before .before .before .before .before .before .args in
     let o = c .before .before .before .before .before .before .before .before .before .«open» in
-    open-did (s .n) (s .count) (tables (s .accounts .now) (s .counters .now) (s .pays .now)) (c .stop .result) (o .result) _ _ _ _ _
+    open-did (s .n) (s .count) (tables (s .accounts .now) (s .counters .now) (s .pays .now)) (c .stop .result) (o .result) _ _
     (open-refused _ _ (tables (c .before .before .before .before .before .before .before .before .before .before .before .before .before .before .before .before .before .before .before .before .before .args .accounts .now) (c .before .before .before .before .before .before .before .before .before .before .before .before .before .before .before .before .before .before .before .before .before .args .counters .now) (c .before .before .before .before .before .before .before .before .before .before .before .before .before .before .before .before .before .before .before .before .before .args .pays .now)) _ _ (c .before .before .r2 .given .0 .0) (c .before .before .r2 .given .1) (c .stop .ensures))
-    (c .before .before .before .before .before .before .before .before .before .before .before .before .before .before .before .before .before .block .ensures) (c .before .before .before .before .before .before .before .before .before .before .before .before .before .before .before .block2 .ensures) (o .ensures .answer) (o .ensures .accounts) (o .ensures .counters) (o .ensures .pays)
+    (c .before .before .before .before .before .before .before .before .before .before .before .before .before .before .before .before .before .block .ensures) (c .before .before .before .before .before .before .before .before .before .before .before .before .before .before .before .block2 .ensures) (o .ensures)
 
 pub open-spec : {M : Type 1} → statement M
 open-spec =

@@ -2,7 +2,7 @@
 use Rattle.sheet.proofs.Endings.{telling, end-said, end-fewer, end-stands}
 use Rattle.sheet.specs.declared.State.{State}
 use Rattle.night.proofs.Kept.{end-ranges}
-use Rattle.night.specs.Lines.{Tables, tables}
+use Rattle.tables.specs.Layout.{Tables, tables}
 use native.Mathlib.Omega.{arith}
 use mathlib.Core.Path.{refl}
 use borrow.Author.Needs.{needs}
@@ -29,7 +29,7 @@ end-next-requires c κs =
     let s = c .before .before .before .before .before .before .before .before .before in
     let k = c .before .before .before .before .before .ending-at in
     let h = telling (s .args .s) (tables (s .args .accounts .now) (s .args .counters .now) (s .args .pays .now)) (k .result) (k .ensures) (s .pre .0) in
-    (omega (arith, h .holds .broad), omega (arith, h .told, h .holds .few))
+    (omega (arith, h .holds .counters .broad), omega (arith, h .told, h .holds .counters .few))
 
 same-length : tie.Need-same-length
 same-length c = search needs

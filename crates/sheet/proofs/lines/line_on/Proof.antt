@@ -3,7 +3,7 @@ use Rattle.sheet.proofs.Steps.{answered-taken, answered-stopped, fit-ov
 use Rattle.sheet.proofs.Writing.{read-small}
 use Rattle.sheet.specs.Sheet.{countsIn}
 use Rattle.sheet.specs.declared.State.{State}
-use Rattle.night.specs.Lines.{Tables, tables}
+use Rattle.tables.specs.Layout.{Tables, tables}
 use Rattle.cut.specs.Lines.{Line}
 use Rattle.cut.specs.Chunks.{lineOf, stateOf}
 use lib.ListN.{length}

@@ -1,6 +1,6 @@
 -- `sheet::lines::take_line` meets its contract: no loop.
 use Rattle.sheet.proofs.Steps.{did-kept, taken}
-use Rattle.night.specs.Lines.{Tables, tables}
+use Rattle.tables.specs.Layout.{Tables, tables}
 use native.Mathlib.Omega.{arith}
 use Prim.Native.Nat.{_+_}
 use mathlib.Core.Path.{refl}

@@ -1,6 +1,6 @@
 -- `sheet::turns::close_on` meets its contract: no loop.
 use Rattle.sheet.proofs.Desks.{closes-room, closes-open, end-closed, last-closed}
-use Rattle.night.specs.Lines.{Tables, tables}
+use Rattle.tables.specs.Layout.{Tables, tables}
 use lib.ListN.{length}
 use mathlib.Core.List.{[]}
 use mathlib.Core.Path.{sym, _∙_}

@@ -2,7 +2,7 @@
 use Rattle.sheet.proofs.Desks.{eat-done, eat-open, eat-more}
 use Rattle.sheet.proofs.Writing.{grown-none}
 use Rattle.sheet.specs.Feeding.{nightOf}
-use Rattle.night.specs.Lines.{Tables, tables}
+use Rattle.tables.specs.Layout.{Tables, tables}
 use Rattle.sheet.specs.Sheet.{Night}
 use Rattle.cut.specs.Chunks.{Held, stateOf}
 use Rattle.cut.specs.declared.Cut.{Cut}

@@ -2,7 +2,7 @@
 use Rattle.sheet.proofs.Desks.{last-line, last-none, fewer-bytes, over-less}
 use Rattle.sheet.proofs.Steps.{stopped-at, fit-over}
 use Rattle.sheet.specs.declared.State.{State}
-use Rattle.night.specs.Lines.{Tables, tables}
+use Rattle.tables.specs.Layout.{Tables, tables}
 use lib.ListN.{length}
 use mathlib.Core.Path.{ap, _∙_}
 use borrow.Author.Needs.{needs}

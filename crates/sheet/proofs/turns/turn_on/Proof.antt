@@ -2,7 +2,7 @@
 use Rattle.sheet.proofs.Desks.{goes-room, goes-reads, end-turned, eat-turned, fewer-bytes}
 use Rattle.sheet.specs.Feeding.{deskOf}
 use Prim.Native.Nat.{_-_}
-use Rattle.night.specs.Lines.{Tables, tables}
+use Rattle.tables.specs.Layout.{Tables, tables}
 use Rattle.sheet.specs.declared.Turn.{Turn}
 use lib.ListN.{length, drop}
 use mathlib.Core.Path.{sym, _∙_}

@@ -5,7 +5,7 @@ use native.Mathlib.Omega.{arith}
 use lib.IntN.{pos}
 use lib.Signed.{leZ}
 use Rattle.rule.proofs.Ints.{plain}
-use Rattle.tables.proofs.Balances.{accounts-bounded}
+use Rattle.tables.proofs.Balances.{seats-bounded}
 use Rattle.tables.proofs.Tests.{flag-no, flag-yes}
 use Rattle.tables.specs.Layout.{moneyOf}
 use Rattle.tables.specs.Sizes.{most}
@@ -28,7 +28,7 @@ unfolding accountsOk
 returns-2 c = rw (flag-yes (c .before .before .before .seats-ok .ensures) (c .before .before .if1 .left), flag-no (c .before .spare-ok .ensures) (c .if2 .taken))
 
 total-requires : tie.Need-total-requires
-total-requires c κs = accounts-bounded (c .before .before .before .before .args .n) (c .before .before .before .before .args .accounts .now) (omega arith) (flag-yes (c .before .before .before .seats-ok .ensures) (c .before .before .if1 .left))
+total-requires c κs = seats-bounded (c .before .before .before .before .args .n) (c .before .before .before .before .args .accounts .now) (omega arith) (flag-yes (c .before .before .before .seats-ok .ensures) (c .before .before .if1 .left))
 
 signed-requires : tie.Need-signed-requires
 signed-requires c κs = search needs

@@ -82,7 +82,7 @@ returns-6 c =
     rw (fit (c .before .before .before .before .before .before .before .before .before .before), counted (c .before .before .before .before .before .before .before .before), booked (c .before .before), e)
 
 queues-ok-requires : tie.Need-queues-ok-requires
-queues-ok-requires c κs = (omega arith, omega arith, counters-are (c .before .before .before .before .before .before .before .before .before .before .before .before .before .before .before .args .counters .now) (counted (c .before .before .before .before .before .before .before .before)) .room)
+queues-ok-requires c κs = (omega arith, omega arith, counters-are (c .before .before .before .before .before .before .before .before .before .before .before .before .before .before .before .args .counters .now) (broad (c .before .before .before .before .before .before .before .before .before .before .before)) (counted (c .before .before .before .before .before .before .before .before)) .room)
 
 returns-7 : tie.Need-returns-7
 unfolding isState
