@@ -1,6 +1,6 @@
--- What a call on bytes replies: its code, the tables after it, and the parts that it writes into the answer.
-use mathlib.Core.Path.{_≡_}
-use mathlib.Core.List.{List, []}
+-- What a call on lent bytes replies: its code, and the bytes after it.
+use mathlib.Core.Bool.{cond}
+use mathlib.Core.List.{List}
 use Prim.Native.Nat.{ℕ}
 use Rattle.tables.specs.Layout.{Tables}
 use Rattle.words.specs.Row.{putRow, plain}
@@ -8,48 +8,32 @@ use Rattle.answers.specs.Codes.{codeOf}
 use Rattle.answers.specs.Outcome.{Outcome}
 use Rattle.answers.specs.declared.Refusal.{Refusal}
 use Rattle.answers.specs.declared.Refusal.the-variants.{State}
-use Rattle.lists.specs.Bytes.{tablesIn, withTables}
+use Rattle.lists.specs.Bytes.{tablesIn, withTables, lent}
 
--- ---- on bytes that are long enough
-
--- what the house does to the lists in the bytes s: its answer, and the bytes with the lists after it put back
-abbrev pub onBytes : {A : Type 0} → (Tables → Outcome A) → List ℕ → A × List ℕ
-onBytes f s = (f (tablesIn s) .answer, withTables s (f (tablesIn s) .after))
-
--- what is told of an answer: its code, and its parts, 8 bytes each
-pub record Told : Type 0 where
-  pub code : ℕ
-  pub parts : List ℕ
-
--- accepted: the code is 0
-abbrev pub done : List ℕ → Told
-done parts = record { code = 0; parts = parts }
-
--- refused: nothing is told
-abbrev pub no : Refusal → Told
-no r = record { code = codeOf r; parts = [] }
-
--- ---- the reply
-
-pub record Reply : Type 0 where
-  pub told : Told
-  -- the tables' bytes after the call
+-- what a host lends to be written: the tables, the list of counts and the answer. A call that is lent no counts, or no answer, is lent none of
+-- their bytes.
+pub record Lent : Type 0 where
   pub tables : List ℕ
+  pub counts : List ℕ
+  pub answer : List ℕ
 
-abbrev pub replyOf : {A : Type 0} → (A → Told) → (Tables → Outcome A) → List ℕ → Reply
-replyOf tell f s = record { told = tell (onBytes f s .0); tables = onBytes f s .1 }
+abbrev pub lends : List ℕ → List ℕ → List ℕ → Lent
+lends s u t = record { tables = s; counts = u; answer = t }
 
--- on bytes that are too short
-abbrev pub short : List ℕ → Reply
-short s = record { told = no State; tables = s }
+-- what is told of an answer: where it accepts, counts of 2 bytes and parts of 8 bytes; else the refusal
+pub data Told : Type 0 where
+  yes : (counts parts : List ℕ) → Told
+  no : Refusal → Told
 
--- the call replied y: r is its code, and s′ are the tables after it
-pub record Stored (y : Reply) (s′ : List ℕ) (r : ℕ) : Type 0 where
-  pub code : r ≡ y .told .code
-  pub tables : s′ ≡ y .tables
+-- this is told, and W are the lists after the call: the code, and the bytes. A refusal writes nothing.
+abbrev pub written : Lent → Tables → Told → ℕ × Lent
+written x W (yes k p) = (0, lends (withTables (x .tables) W) (putRow plain 2 (x .counts) 0 k) (putRow plain 8 (x .answer) 0 p))
+written x W (no r) = (codeOf r, x)
 
--- the call replied y: besides, the answer's bytes t became t′, the parts from byte 0 on
-pub record Replied (y : Reply) (t s′ t′ : List ℕ) (r : ℕ) : Type 0 where
-  pub code : r ≡ y .told .code
-  pub tables : s′ ≡ y .tables
-  pub answer : t′ ≡ putRow plain 8 t 0 (y .told .parts)
+-- on bytes that are long enough, what the house does to the lists in them
+abbrev pub onBytes : {A : Type 0} → (A → Told) → (Tables → Outcome A) → Lent → ℕ × Lent
+onBytes tell f x = written x (f (tablesIn (x .tables)) .after) (tell (f (tablesIn (x .tables)) .answer))
+
+-- on any bytes: tables that are too short, or an answer with less than `least` bytes, are refused with 1
+abbrev pub reply : {A : Type 0} → ℕ → (A → Told) → (Tables → Outcome A) → Lent → ℕ × Lent
+reply least tell f x = cond (lent (x .tables) (x .answer) least) (onBytes tell f x) (codeOf State, x)

@@ -1,12 +1,9 @@
--- What each call tells of its answer, and its reply. s are the tables' bytes and t the answer's; a list that is lent as bytes is read out first.
-use mathlib.Core.Bool.{cond}
+-- What each call tells of its answer, and its reply. A list that is lent as bytes is read out first.
 use mathlib.Core.List.{List, [], _∷_}
 use Prim.Native.Nat.{ℕ}
 use lib.Count.{ones}
-use lib.ListN.{length}
 use mir.Syntax.{w64}
 use mir.Val.{ofZ}
-use Rattle.words.specs.Row.{putRow, plain}
 use Rattle.sets.specs.Sets.{lowestIn}
 use Rattle.answers.specs.Verdicts.{numberOf}
 use Rattle.answers.specs.Outcome.{held, called}
@@ -29,67 +26,65 @@ use Rattle.entry.specs.Submit.{submitAct}
 use Rattle.settling.specs.Release.{releaseAct}
 use Rattle.settling.specs.Group.{groupAct}
 use Rattle.resolving.specs.Resolve.{resolveAct}
-use Rattle.lists.specs.Bytes.{tablesIn, lent, roomy, countsIn, signedIn}
-use Rattle.calls.specs.Reply.{Told, done, no, Reply, replyOf, short}
+use Rattle.lists.specs.Bytes.{countsIn, signedIn}
+use Rattle.calls.specs.Reply.{Lent, Told, yes, no, reply}
 
 -- ---- what is told
 
 -- the sum of balances
 abbrev pub toldOpened : Opened → Told
-toldOpened (opening.Done x) = done (ofZ w64 x ∷ [])
+toldOpened (opening.Done x) = yes [] (ofZ w64 x ∷ [])
 toldOpened (opening.Refused r) = no r
 
 -- the new balance
 abbrev pub toldDeposited : Deposited → Told
-toldDeposited (depositing.Done b) = done (ofZ w64 b ∷ [])
+toldDeposited (depositing.Done b) = yes [] (ofZ w64 b ∷ [])
 toldDeposited (depositing.Refused r) = no r
 
 -- nothing but the code
 abbrev pub toldSubmitted : Submitted → Told
-toldSubmitted submitting.Done = done []
+toldSubmitted submitting.Done = yes [] []
 toldSubmitted (submitting.Refused r) = no r
 
 -- the payment's number and amount
 abbrev pub toldReleased : Released → Told
-toldReleased (releasing.Done i n x) = done (n ∷ x ∷ [])
+toldReleased (releasing.Done i n x) = yes [] (n ∷ x ∷ [])
 toldReleased (releasing.Refused r) = no r
 
 -- how many payments, and their sum
 abbrev pub toldGrouped : Grouped → Told
-toldGrouped (grouping.Done n x) = done (n ∷ x ∷ [])
+toldGrouped (grouping.Done n x) = yes [] (n ∷ x ∷ [])
 toldGrouped (grouping.Refused r) = no r
 
 -- the verdict, how many payments, their sum, the set of members still waiting, how many those are, and the lowest
 abbrev pub partsOf : Resolution → List ℕ
 partsOf x = numberOf (x .verdict) ∷ x .payments ∷ x .sum ∷ x .waiting ∷ ones (x .waiting) ∷ lowestIn (x .waiting) ∷ []
 
-abbrev pub toldResolved : Resolved → Told
-toldResolved (resolving.Done x) = done (partsOf x)
-toldResolved (resolving.Refused r) = no r
+-- besides, the counts
+abbrev pub toldWith : List ℕ → Resolved → Told
+toldWith k (resolving.Done x) = yes k (partsOf x)
+toldWith k (resolving.Refused r) = no r
+
+abbrev pub toldResolved : Resolved × List ℕ → Told
+toldResolved a = toldWith (a .1) (a .0)
 
 -- ---- the replies
 
-abbrev pub openReply : List ℕ → ℕ → List ℕ → List ℕ → List ℕ → Reply
-openReply s n u v t = cond (lent s t 8) (replyOf toldOpened (held (openAct n (signedIn u) (signedIn v))) s) (short s)
+abbrev pub openReply : ℕ → List ℕ → List ℕ → Lent → ℕ × Lent
+openReply n u v = reply 8 toldOpened (held (openAct n (signedIn u) (signedIn v)))
 
-abbrev pub depositReply : List ℕ → List ℕ → ℕ → ℕ → Reply
-depositReply s t m x = cond (lent s t 8) (replyOf toldDeposited (called (depositAct m x)) s) (short s)
+abbrev pub depositReply : ℕ → ℕ → Lent → ℕ × Lent
+depositReply m a = reply 8 toldDeposited (called (depositAct m a))
 
-abbrev pub submitReply : List ℕ → ℕ → ℕ → ℕ → ℕ → Reply
-submitReply s m n q x = cond (roomy (length s)) (replyOf toldSubmitted (called (submitAct m n q x)) s) (short s)
+abbrev pub submitReply : ℕ → ℕ → ℕ → ℕ → Lent → ℕ × Lent
+submitReply m n q a = reply 0 toldSubmitted (called (submitAct m n q a))
 
-abbrev pub releaseReply : List ℕ → List ℕ → ℕ → Reply
-releaseReply s t m = cond (lent s t 16) (replyOf toldReleased (called (releaseAct m)) s) (short s)
+abbrev pub releaseReply : ℕ → Lent → ℕ × Lent
+releaseReply m = reply 16 toldReleased (called (releaseAct m))
 
-abbrev pub groupReply : List ℕ → List ℕ → List ℕ → Reply
-groupReply s u t = cond (lent s t 16) (replyOf toldGrouped (called (groupAct (countsIn u))) s) (short s)
+abbrev pub groupReply : List ℕ → Lent → ℕ × Lent
+groupReply u = reply 16 toldGrouped (called (groupAct (countsIn u)))
 
-abbrev pub resolveReply : List ℕ → List ℕ → List ℕ → Reply
-resolveReply s u t = cond (lent s t 48) (replyOf (λ x. toldResolved (x .0)) (called (resolveAct (countsIn u))) s) (short s)
-
--- the bytes u of the lent list of counts, with the counts after the resolution in them
-abbrev pub countsTold : List ℕ → List ℕ → List ℕ
-countsTold s u = putRow plain 2 u 0 (called (resolveAct (countsIn u)) (tablesIn s) .answer .1)
-
-abbrev pub resolveCounts : List ℕ → List ℕ → List ℕ → List ℕ
-resolveCounts s u t = cond (lent s t 48) (countsTold s u) u
+-- its counts are read for how many there are
+abbrev pub resolveReply : Lent → ℕ × Lent
+resolveReply x = reply 48 toldResolved (called (resolveAct (countsIn (x .counts)))) x

@@ -1,9 +1,13 @@
--- `calls::deposit` meets its contract: no loop; what the house did to the lists is what is put back.
-use borrow.Author.Needs.{needs}
+-- `calls::deposit` meets its contract: no loop; what the house did to the lists is put back where it accepts.
+use mathlib.Core.Path.{refl}
+use mathlib.Core.List.{[]}
 use Rattle.tables.proofs.Same.{tables-same}
+use Rattle.calls.specs.Reply.{lends}
 use Rattle.answers.specs.Outcome.{called}
 use Rattle.entry.specs.Deposit.{depositAct}
-use Rattle.calls.proofs.Runs.{runs}
+use Rattle.calls.specs.Telling.{toldDeposited}
+use Rattle.calls.proofs.Runs.{accepted, refused, put-none, put-signed}
+use borrow.Author.Needs.{needs}
 use Rattle.calls.proofs.deposit.Statement.{statement}
 use Rattle.calls.proofs.deposit.Tie as tie
 
@@ -28,6 +32,9 @@ slice-aggregate-deposit-3 c = search needs
 deposit-requires : tie.Need-deposit-requires
 deposit-requires c κs = search needs
 
+enum-known-r : tie.Need-enum-known-r
+enum-known-r c = search needs
+
 slice-aggregate-store : tie.Need-slice-aggregate-store
 slice-aggregate-store c = search needs
 
@@ -40,16 +47,45 @@ slice-aggregate-store-3 c = search needs
 store-requires : tie.Need-store-requires
 store-requires c κs = search needs
 
+write-i64-requires : tie.Need-write-i64-requires
+write-i64-requires c κs = search needs
+
+enum-known-r-2 : tie.Need-enum-known-r-2
+enum-known-r-2 c = search needs
+
+code-requires : tie.Need-code-requires
+code-requires c κs = search needs
+
 same-length : tie.Need-same-length
 same-length c = search needs
 
+same-length-2 : tie.Need-same-length-2
+same-length-2 c = search needs
+
 returns : tie.Need-returns
 returns c =
-    let s = c .before .before .before .before .before .before .before .before .before .before .before .before .before .before .before .before .before .before .before in
-    runs (called (depositAct (s .args .member) (s .args .amount))) (s .args .s .now)
-    (tables-same (c .before .before .before .before .before .before .before .before .before .before .before .before .before .before .before .before .accounts-of .ensures .0) (c .before .before .before .before .before .before .before .before .before .before .before .before .before .before .counters-of .ensures .0) (c .before .before .before .before .before .before .before .before .before .before .before .before .pays-of .ensures .0))
-    (c .before .before .before .before .before .before .before .before .deposit .ensures)
-    (c .before .before .store .ensures)
+    let s = c .before .before .before .before .before .before .before .before .before .before .before .before .before .before .before .before .before .before .before .before .before .before .before .before .before .before .before in
+    accepted toldDeposited (called (depositAct (s .args .member) (s .args .amount))) (lends (s .args .s .now) [] (s .args .answer .now))
+    (tables-same (c .before .before .before .before .before .before .before .before .before .before .before .before .before .before .before .before .before .before .before .before .before .before .before .accounts-of .ensures .0) (c .before .before .before .before .before .before .before .before .before .before .before .before .before .before .before .before .before .before .before .before .before .counters-of .ensures .0) (c .before .before .before .before .before .before .before .before .before .before .before .before .before .before .before .before .before .before .before .pays-of .ensures .0))
+    (c .before .before .before .before .before .before .before .before .before .before .before .before .before .before .before .deposit .ensures)
+    (c .before .before .before .before .before .before .before .before .before .before .before .before .r .given .1)
+    refl
+    (c .before .before .before .before .before .before .store .ensures)
+    (put-none 2 [])
+    (put-signed _ {z = c .before .before .before .before .before .before .before .before .before .before .before .before .r .given .0 .0} (record { sfits = c .before .before .before .before .before .before .before .before .before .before .before .known-told .given .0 .1 }) (c .before .before .write-i64 .ensures))
+
+same-length-3 : tie.Need-same-length-3
+same-length-3 c = search needs
+
+returns-2 : tie.Need-returns-2
+returns-2 c =
+    let s = c .before .before .before .before .before .before .before .before .before .before .before .before .before .before .before .before .before in
+    refused toldDeposited (called (depositAct (s .args .member) (s .args .amount))) (lends (s .args .s .now) [] (s .args .answer .now))
+    (tables-same (c .before .before .before .before .before .before .before .before .before .before .before .before .before .accounts-of .ensures .0) (c .before .before .before .before .before .before .before .before .before .before .before .counters-of .ensures .0) (c .before .before .before .before .before .before .before .before .before .pays-of .ensures .0))
+    (c .before .before .before .before .before .deposit .ensures)
+    (c .before .before .r2 .given .1)
+    refl
+    (c .code .ensures)
 
 pub deposit-spec : {M : Type 1} → statement M
 deposit-spec =
@@ -62,9 +98,16 @@ deposit-spec =
     slice-aggregate-deposit-2
     slice-aggregate-deposit-3
     deposit-requires
+    enum-known-r
     slice-aggregate-store
     slice-aggregate-store-2
     slice-aggregate-store-3
     store-requires
+    write-i64-requires
+    enum-known-r-2
+    code-requires
     same-length
-    returns)
+    same-length-2
+    returns
+    same-length-3
+    returns-2)

@@ -15,13 +15,16 @@ slice-aggregate-group-list : tie.Need-slice-aggregate-group-list
 slice-aggregate-group-list c = sym (length-take-le _ _ (c .before .before .entries-of .ensures .2))
 
 group-list-requires : tie.Need-group-list-requires
-group-list-requires c κs = (c .before .before .before .before .before .pre, rw (sym (slice-aggregate-group-list c)) (c .before .before .entries-of .ensures .1))
+group-list-requires c κs = (c .before .before .before .before .before .before .before .pre .0, rw (sym (slice-aggregate-group-list (c .before))) (c .before .before .before .entries-of .ensures .1), c .before .before .before .before .before .before .before .pre .1)
 
 same-length : tie.Need-same-length
 same-length c = search needs
 
+same-length-2 : tie.Need-same-length-2
+same-length-2 c = search needs
+
 returns : tie.Need-returns
-returns c = let e = sym (slice-aggregate-group-list (c .before .before .before .before)) ∙ c .before .before .before .before .before .before .entries-of .ensures .0 in rw e at (c .before .before .before .group-list .ensures)
+returns c = let e = sym (slice-aggregate-group-list (c .before .before .before .before .before .before .before)) ∙ c .before .before .before .before .before .before .before .before .before .entries-of .ensures .0 in rw e at (c .before .before .before .before .before .group-list .ensures)
 
 pub group-spec : {M : Type 1} → statement M
 group-spec =
@@ -32,4 +35,5 @@ group-spec =
     slice-aggregate-group-list
     group-list-requires
     same-length
+    same-length-2
     returns)

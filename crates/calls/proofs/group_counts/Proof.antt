@@ -1,9 +1,13 @@
--- `calls::group_counts` meets its contract: no loop; what the house did to the lists is what is put back.
-use borrow.Author.Needs.{needs}
+-- `calls::group_counts` meets its contract: no loop; what the house did to the lists is put back where it accepts.
+use mathlib.Core.Path.{refl}
+use mathlib.Core.List.{[]}
 use Rattle.tables.proofs.Same.{tables-same}
+use Rattle.calls.specs.Reply.{lends}
 use Rattle.answers.specs.Outcome.{called}
 use Rattle.settling.specs.Group.{groupAct}
-use Rattle.calls.proofs.Runs.{runs}
+use Rattle.calls.specs.Telling.{toldGrouped}
+use Rattle.calls.proofs.Runs.{accepted, refused, put-none}
+use borrow.Author.Needs.{needs}
 use Rattle.calls.proofs.group_counts.Statement.{statement}
 use Rattle.calls.proofs.group_counts.Tie as tie
 
@@ -28,6 +32,9 @@ slice-aggregate-group-3 c = search needs
 group-requires : tie.Need-group-requires
 group-requires c κs = search needs
 
+enum-known-r : tie.Need-enum-known-r
+enum-known-r c = search needs
+
 slice-aggregate-store : tie.Need-slice-aggregate-store
 slice-aggregate-store c = search needs
 
@@ -40,16 +47,45 @@ slice-aggregate-store-3 c = search needs
 store-requires : tie.Need-store-requires
 store-requires c κs = search needs
 
+pair-requires : tie.Need-pair-requires
+pair-requires c κs = search needs
+
+enum-known-r-2 : tie.Need-enum-known-r-2
+enum-known-r-2 c = search needs
+
+code-requires : tie.Need-code-requires
+code-requires c κs = search needs
+
 same-length : tie.Need-same-length
 same-length c = search needs
 
+same-length-2 : tie.Need-same-length-2
+same-length-2 c = search needs
+
 returns : tie.Need-returns
 returns c =
-    let s = c .before .before .before .before .before .before .before .before .before .before .before .before .before .before .before .before .before .before .before .before .before .before in
-    runs (called (groupAct (s .args .k .now))) (s .args .s .now)
-    (tables-same (c .before .before .before .before .before .before .before .before .before .before .before .before .before .before .before .before .before .before .accounts-of .ensures .0) (c .before .before .before .before .before .before .before .before .before .before .before .before .before .before .before .before .counters-of .ensures .0) (c .before .before .before .before .before .before .before .before .before .before .before .before .before .before .pays-of .ensures .0))
-    (c .before .before .before .before .before .before .before .before .before .before .group .ensures)
-    (c .before .before .store .ensures)
+    let s = c .before .before .before .before .before .before .before .before .before .before .before .before .before .before .before .before .before .before .before .before .before .before .before .before .before .before .before .before .before .before in
+    accepted toldGrouped (called (groupAct (s .args .k .now))) (lends (s .args .s .now) [] (s .args .answer .now))
+    (tables-same (c .before .before .before .before .before .before .before .before .before .before .before .before .before .before .before .before .before .before .before .before .before .before .before .before .before .accounts-of .ensures .0) (c .before .before .before .before .before .before .before .before .before .before .before .before .before .before .before .before .before .before .before .before .before .before .before .counters-of .ensures .0) (c .before .before .before .before .before .before .before .before .before .before .before .before .before .before .before .before .before .before .before .before .before .pays-of .ensures .0))
+    (c .before .before .before .before .before .before .before .before .before .before .before .before .before .before .before .before .before .group .ensures)
+    (c .before .before .before .before .before .before .before .before .before .before .before .before .r .given .1)
+    refl
+    (c .before .before .before .before .before .before .store .ensures)
+    (put-none 2 [])
+    (c .before .before .pair .ensures)
+
+same-length-3 : tie.Need-same-length-3
+same-length-3 c = search needs
+
+returns-2 : tie.Need-returns-2
+returns-2 c =
+    let s = c .before .before .before .before .before .before .before .before .before .before .before .before .before .before .before .before .before .before .before .before in
+    refused toldGrouped (called (groupAct (s .args .k .now))) (lends (s .args .s .now) [] (s .args .answer .now))
+    (tables-same (c .before .before .before .before .before .before .before .before .before .before .before .before .before .before .before .accounts-of .ensures .0) (c .before .before .before .before .before .before .before .before .before .before .before .before .before .counters-of .ensures .0) (c .before .before .before .before .before .before .before .before .before .before .before .pays-of .ensures .0))
+    (c .before .before .before .before .before .before .before .group .ensures)
+    (c .before .before .r2 .given .1)
+    refl
+    (c .code .ensures)
 
 pub group-counts-spec : {M : Type 1} → statement M
 group-counts-spec =
@@ -62,9 +98,16 @@ group-counts-spec =
     slice-aggregate-group-2
     slice-aggregate-group-3
     group-requires
+    enum-known-r
     slice-aggregate-store
     slice-aggregate-store-2
     slice-aggregate-store-3
     store-requires
+    pair-requires
+    enum-known-r-2
+    code-requires
     same-length
-    returns)
+    same-length-2
+    returns
+    same-length-3
+    returns-2)

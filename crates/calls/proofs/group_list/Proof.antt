@@ -15,10 +15,13 @@ same-length c = search needs
 same-length-2 : tie.Need-same-length-2
 same-length-2 c = search needs
 
+same-length-3 : tie.Need-same-length-3
+same-length-3 c = search needs
+
 returns : tie.Need-returns
-returns c = (rw (c .before .before .before .before .before .before .before .decode-u16 .ensures) at (c .before .before .group-counts .ensures))
+returns c = (rw (c .before .before .before .before .before .before .before .before .before .before .decode-u16 .ensures) at (c .before .before .before .before .group-counts .ensures))
 
 pub group-list-spec : {M : Type 1} → statement M
 group-list-spec =
     tie.close
-    (tie.spec decode-u16-requires group-counts-requires same-length same-length-2 returns)
+    (tie.spec decode-u16-requires group-counts-requires same-length same-length-2 same-length-3 returns)

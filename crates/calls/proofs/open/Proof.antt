@@ -24,13 +24,16 @@ slice-aggregate-open-lists-2 : tie.Need-slice-aggregate-open-lists-2
 slice-aggregate-open-lists-2 c = sym (length-take-le _ _ (c .before .before .before .entries-of2 .ensures .2))
 
 open-lists-requires : tie.Need-open-lists-requires
-open-lists-requires c κs = (c .before .before .before .before .before .before .before .before .pre, rw (sym (slice-aggregate-open-lists (c .before))) (c .before .before .before .before .entries-of .ensures .1), rw (sym (slice-aggregate-open-lists-2 (c))) (c .before .before .before .entries-of2 .ensures .1))
+open-lists-requires c κs = (c .before .before .before .before .before .before .before .before .before .before .pre .0, rw (sym (slice-aggregate-open-lists (c .before .before))) (c .before .before .before .before .before .entries-of .ensures .1), rw (sym (slice-aggregate-open-lists-2 (c .before))) (c .before .before .before .before .entries-of2 .ensures .1), c .before .before .before .before .before .before .before .before .before .before .pre .1)
 
 same-length : tie.Need-same-length
 same-length c = search needs
 
+same-length-2 : tie.Need-same-length-2
+same-length-2 c = search needs
+
 returns : tie.Need-returns
-returns c = let e = sym (slice-aggregate-open-lists (c .before .before .before .before .before .before)) ∙ c .before .before .before .before .before .before .before .before .before .entries-of .ensures .0 in let f = sym (slice-aggregate-open-lists-2 (c .before .before .before .before .before)) ∙ c .before .before .before .before .before .before .before .before .entries-of2 .ensures .0 in rw (e, f) at (c .before .before .before .before .open-lists .ensures)
+returns c = let e = sym (slice-aggregate-open-lists (c .before .before .before .before .before .before .before .before .before)) ∙ c .before .before .before .before .before .before .before .before .before .before .before .before .entries-of .ensures .0 in let f = sym (slice-aggregate-open-lists-2 (c .before .before .before .before .before .before .before .before)) ∙ c .before .before .before .before .before .before .before .before .before .before .before .entries-of2 .ensures .0 in rw (e, f) at (c .before .before .before .before .before .before .open-lists .ensures)
 
 pub open-spec : {M : Type 1} → statement M
 open-spec =
@@ -44,4 +47,5 @@ open-spec =
     slice-aggregate-open-lists-2
     open-lists-requires
     same-length
+    same-length-2
     returns)

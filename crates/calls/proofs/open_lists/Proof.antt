@@ -21,8 +21,11 @@ same-length-2 c = search needs
 same-length-3 : tie.Need-same-length-3
 same-length-3 c = search needs
 
+same-length-4 : tie.Need-same-length-4
+same-length-4 c = search needs
+
 returns : tie.Need-returns
-returns c = (rw (c .before .before .before .before .before .before .before .before .before .before .decode-i64 .ensures, c .before .before .before .before .before .before .before .decode-i642 .ensures) at (c .before .before .open-members .ensures))
+returns c = rw (c .before .before .before .before .before .before .before .before .before .before .before .before .before .decode-i64 .ensures, c .before .before .before .before .before .before .before .before .before .before .decode-i642 .ensures) at (c .before .before .before .before .open-members .ensures)
 
 pub open-lists-spec : {M : Type 1} → statement M
 open-lists-spec =
@@ -34,4 +37,5 @@ open-lists-spec =
     same-length
     same-length-2
     same-length-3
+    same-length-4
     returns)

@@ -1,9 +1,5 @@
 -- `calls::resolve` meets its contract: no loop; the room for counts is as long as the bytes say.
-use mathlib.Core.Path.{sym, ap, _∙_}
-use mathlib.Core.List.{List}
-use Prim.Native.Nat.{ℕ}
-use Rattle.words.specs.Row.{putRow, plain}
-use Rattle.answers.specs.declared.Resolved.{Resolved}
+use mathlib.Core.Path.{sym, _∙_}
 use lib.Seq.{length-take-le}
 use borrow.Author.Needs.{needs}
 use Rattle.calls.proofs.resolve.Statement.{statement}
@@ -19,7 +15,7 @@ slice-aggregate-resolve-list : tie.Need-slice-aggregate-resolve-list
 slice-aggregate-resolve-list c = sym (length-take-le _ _ (c .before .before .before .entries-of .ensures .2))
 
 resolve-list-requires : tie.Need-resolve-list-requires
-resolve-list-requires c κs = (c .before .before .before .before .before .before .pre, rw (sym (slice-aggregate-resolve-list c)) (c .before .before .before .entries-of .ensures .1))
+resolve-list-requires c κs = (c .before .before .before .before .before .before .before .before .pre .0, rw (sym (slice-aggregate-resolve-list (c .before))) (c .before .before .before .before .entries-of .ensures .1), c .before .before .before .before .before .before .before .before .pre .1)
 
 same-length : tie.Need-same-length
 same-length c = search needs
@@ -27,13 +23,11 @@ same-length c = search needs
 same-length-2 : tie.Need-same-length-2
 same-length-2 c = search needs
 
+same-length-3 : tie.Need-same-length-3
+same-length-3 c = search needs
+
 returns : tie.Need-returns
-returns c =
-    let e = sym (slice-aggregate-resolve-list (c .before .before .before .before .before .before)) ∙ c .before .before .before .before .before .before .before .before .before .entries-of .ensures .0 in
-    let f = rw e at (c .before .before .before .before .before .resolve-list .ensures .0) in (
-      (ap (λ (x : (Resolved × List ℕ) × List ℕ). x .0 .0) f, ap (λ (x : (Resolved × List ℕ) × List ℕ). x .1) f),
-      c .before .before .before .before .before .resolve-list .ensures .1 ∙ ap (λ (x : (Resolved × List ℕ) × List ℕ). putRow plain 2 (c .before .before .before .before .before .before .before .before .before .before .before .before .args .counts .now) 0 (x .0 .1)) f,
-    )
+returns c = let e = sym (slice-aggregate-resolve-list (c .before .before .before .before .before .before .before .before .before)) ∙ c .before .before .before .before .before .before .before .before .before .before .before .before .entries-of .ensures .0 in rw e at (c .before .before .before .before .before .before .before .resolve-list .ensures)
 
 pub resolve-spec : {M : Type 1} → statement M
 resolve-spec =
@@ -45,4 +39,5 @@ resolve-spec =
     resolve-list-requires
     same-length
     same-length-2
+    same-length-3
     returns)

@@ -9,9 +9,6 @@ decode-u16-requires c κs = search needs
 resolve-counts-requires : tie.Need-resolve-counts-requires
 resolve-counts-requires c κs = search needs
 
-encode-u16-requires : tie.Need-encode-u16-requires
-encode-u16-requires c κs = search needs
-
 same-length : tie.Need-same-length
 same-length c = search needs
 
@@ -21,8 +18,11 @@ same-length-2 c = search needs
 same-length-3 : tie.Need-same-length-3
 same-length-3 c = search needs
 
+same-length-4 : tie.Need-same-length-4
+same-length-4 c = search needs
+
 returns : tie.Need-returns
-returns c = (rw (c .before .before .before .before .before .before .before .before .before .before .before .before .before .before .decode-u16 .ensures) at (c .before .before .before .before .before .before .before .before .before .resolve-counts .ensures), c .before .before .encode-u16 .ensures)
+returns c = rw (c .before .before .before .before .before .before .before .before .before .before .before .before .before .before .before .decode-u16 .ensures) at (c .before .before .before .before .before .before .before .before .resolve-counts .ensures)
 
 pub resolve-list-spec : {M : Type 1} → statement M
 resolve-list-spec =
@@ -30,8 +30,8 @@ resolve-list-spec =
     (tie.spec
     decode-u16-requires
     resolve-counts-requires
-    encode-u16-requires
     same-length
     same-length-2
     same-length-3
+    same-length-4
     returns)

@@ -1,11 +1,11 @@
--- `snarevapor::snarevapor_deposit` meets its contract: no loop; the reply is that of what the house answered.
-use mathlib.Core.Path.{refl, sym}
-use lib.ListN.{length}
+-- `snarevapor::snarevapor_deposit` meets its contract: no loop; the lent lengths are tested, and the call does the rest.
+use mathlib.Core.List.{[]}
 use Rattle.tables.proofs.Tests.{flag-no, flag-yes}
 use Rattle.answers.specs.Outcome.{called}
 use Rattle.entry.specs.Deposit.{depositAct}
+use Rattle.calls.specs.Reply.{lends}
 use Rattle.calls.specs.Telling.{toldDeposited}
-use Rattle.snarevapor.proofs.Replies.{lent-tables, lent-answer, short-replied, replied, told-none, told-signed}
+use Rattle.snarevapor.proofs.Replies.{lent-room, reply-long, reply-short}
 use borrow.Author.Needs.{needs}
 use Rattle.snarevapor.proofs.snarevapor_deposit.Statement.{statement}
 use Rattle.snarevapor.proofs.snarevapor_deposit.Tie as tie
@@ -14,22 +14,12 @@ is-lent-requires : tie.Need-is-lent-requires
 is-lent-requires c κs = search needs
 
 returns : tie.Need-returns
-returns c = short-replied _ (flag-no (c .before .is-lent .ensures) (c .if1 .taken))
+returns c =
+    let s = c .before .before .before .before in
+    reply-short 8 toldDeposited (called (depositAct (s .args .member) (s .args .amount))) (lends (s .args .tables .now) [] (s .args .answer .now)) (flag-no (c .before .is-lent .ensures) (c .if1 .taken))
 
 deposit-requires : tie.Need-deposit-requires
-deposit-requires c κs = lent-tables _ _ (flag-yes (c .before .before .is-lent .ensures) (c .before .if1 .left))
-
-enum-known-r : tie.Need-enum-known-r
-enum-known-r c = search needs
-
-write-i64-requires : tie.Need-write-i64-requires
-write-i64-requires c κs = lent-answer (length (c .before .before .before .before .before .before .before .before .before .before .before .before .args .tables .now)) _ 8 (flag-yes (c .before .before .before .before .before .before .before .before .before .is-lent .ensures) (c .before .before .before .before .before .before .before .before .if1 .left))
-
-enum-known-r-2 : tie.Need-enum-known-r-2
-enum-known-r-2 c = search needs
-
-code-requires : tie.Need-code-requires
-code-requires c κs = search needs
+deposit-requires c κs = lent-room _ _ 8 (flag-yes (c .before .before .before .is-lent .ensures) (c .before .before .if1 .left))
 
 same-length : tie.Need-same-length
 same-length c = search needs
@@ -39,32 +29,10 @@ same-length-2 c = search needs
 
 returns-2 : tie.Need-returns-2
 returns-2 c =
-    let s = c .before .before .before .before .before .before .before .before .before .before .before .before .before .before .before in
-    let e = c .before .before .before .before .before .before .before .before .before .deposit .ensures in
-    replied toldDeposited (called (depositAct (s .args .member) (s .args .amount))) (s .args .tables .now) (flag-yes (c .before .before .before .before .before .before .before .before .before .before .before .before .is-lent .ensures) (c .before .before .before .before .before .before .before .before .before .before .before .if1 .left)) e (c .before .before .before .before .before .r .given .1) refl (told-signed _ {z = c .before .before .before .before .before .r .given .0 .0} (record { sfits = c .before .before .before .before .known-told .given .0 .1 }) (c .before .before .write-i64 .ensures))
-
-same-length-3 : tie.Need-same-length-3
-same-length-3 c = search needs
-
-returns-3 : tie.Need-returns-3
-returns-3 c =
-    let s = c .before .before .before .before .before .before .before .before .before .before .before .before in
-    let e = c .before .before .before .before .before .before .deposit .ensures in
-    replied toldDeposited (called (depositAct (s .args .member) (s .args .amount))) (s .args .tables .now) (flag-yes (c .before .before .before .before .before .before .before .before .before .is-lent .ensures) (c .before .before .before .before .before .before .before .before .if1 .left)) e (c .before .before .r2 .given .1) (c .code .ensures) (sym (told-none _))
+    let s = c .before .before .before .before .before .before .before .before .before .before .before in
+    reply-long 8 toldDeposited (called (depositAct (s .args .member) (s .args .amount))) (lends (s .args .tables .now) [] (s .args .answer .now)) (flag-yes (c .before .before .before .before .before .before .before .before .is-lent .ensures) (c .before .before .before .before .before .before .before .if1 .left)) (c .before .before .before .before .deposit .ensures)
 
 pub snarevapor-deposit-spec : {M : Type 1} → statement M
 snarevapor-deposit-spec =
     tie.close
-    (tie.spec
-    is-lent-requires
-    returns
-    deposit-requires
-    enum-known-r
-    write-i64-requires
-    enum-known-r-2
-    code-requires
-    same-length
-    same-length-2
-    returns-2
-    same-length-3
-    returns-3)
+    (tie.spec is-lent-requires returns deposit-requires same-length same-length-2 returns-2)

@@ -1,13 +1,12 @@
--- `snarevapor::snarevapor_open` meets its contract: no loop; the reply is that of what the house answered.
-use mathlib.Core.Path.{refl, sym}
-use lib.ListN.{length}
+-- `snarevapor::snarevapor_open` meets its contract: no loop; the lent lengths are tested, and the call does the rest.
+use mathlib.Core.List.{[]}
 use Rattle.tables.proofs.Tests.{flag-no, flag-yes}
-use Rattle.lists.specs.Bytes.{signedIn}
 use Rattle.answers.specs.Outcome.{held}
 use Rattle.opening.specs.Open.{openAct}
-use Rattle.calls.specs.Telling.{toldOpened}
 use Rattle.lists.specs.Bytes.{signedIn}
-use Rattle.snarevapor.proofs.Replies.{lent-tables, lent-answer, short-replied, replied, told-none, told-signed}
+use Rattle.calls.specs.Reply.{lends}
+use Rattle.calls.specs.Telling.{toldOpened}
+use Rattle.snarevapor.proofs.Replies.{lent-room, reply-long, reply-short}
 use borrow.Author.Needs.{needs}
 use Rattle.snarevapor.proofs.snarevapor_open.Statement.{statement}
 use Rattle.snarevapor.proofs.snarevapor_open.Tie as tie
@@ -16,22 +15,12 @@ is-lent-requires : tie.Need-is-lent-requires
 is-lent-requires c κs = search needs
 
 returns : tie.Need-returns
-returns c = short-replied _ (flag-no (c .before .is-lent .ensures) (c .if1 .taken))
+returns c =
+    let s = c .before .before .before .before .before .before in
+    reply-short 8 toldOpened (held (openAct (s .args .count) (signedIn (s .args .balances .now)) (signedIn (s .args .lines .now)))) (lends (s .args .tables .now) [] (s .args .answer .now)) (flag-no (c .before .is-lent .ensures) (c .if1 .taken))
 
 open-requires : tie.Need-open-requires
-open-requires c κs = lent-tables _ _ (flag-yes (c .before .before .is-lent .ensures) (c .before .if1 .left))
-
-enum-known-r : tie.Need-enum-known-r
-enum-known-r c = search needs
-
-write-i64-requires : tie.Need-write-i64-requires
-write-i64-requires c κs = lent-answer (length (c .before .before .before .before .before .before .before .before .before .before .before .before .before .before .args .tables .now)) _ 8 (flag-yes (c .before .before .before .before .before .before .before .before .before .is-lent .ensures) (c .before .before .before .before .before .before .before .before .if1 .left))
-
-enum-known-r-2 : tie.Need-enum-known-r-2
-enum-known-r-2 c = search needs
-
-code-requires : tie.Need-code-requires
-code-requires c κs = search needs
+open-requires c κs = lent-room _ _ 8 (flag-yes (c .before .before .before .is-lent .ensures) (c .before .before .if1 .left))
 
 same-length : tie.Need-same-length
 same-length c = search needs
@@ -41,32 +30,9 @@ same-length-2 c = search needs
 
 returns-2 : tie.Need-returns-2
 returns-2 c =
-    let s = c .before .before .before .before .before .before .before .before .before .before .before .before .before .before .before .before .before in
-    let e = c .before .before .before .before .before .before .before .before .before .«open» .ensures in
-    replied toldOpened (held (openAct (s .args .count) (signedIn (s .args .balances .now)) (signedIn (s .args .lines .now)))) (s .args .tables .now) (flag-yes (c .before .before .before .before .before .before .before .before .before .before .before .before .is-lent .ensures) (c .before .before .before .before .before .before .before .before .before .before .before .if1 .left)) e (c .before .before .before .before .before .r .given .1) refl (told-signed _ {z = c .before .before .before .before .before .r .given .0 .0} (record { sfits = c .before .before .before .before .known-told .given .0 .1 }) (c .before .before .write-i64 .ensures))
-
-same-length-3 : tie.Need-same-length-3
-same-length-3 c = search needs
-
-returns-3 : tie.Need-returns-3
-returns-3 c =
-    let s = c .before .before .before .before .before .before .before .before .before .before .before .before .before .before in
-    let e = c .before .before .before .before .before .before .«open» .ensures in
-    replied toldOpened (held (openAct (s .args .count) (signedIn (s .args .balances .now)) (signedIn (s .args .lines .now)))) (s .args .tables .now) (flag-yes (c .before .before .before .before .before .before .before .before .before .is-lent .ensures) (c .before .before .before .before .before .before .before .before .if1 .left)) e (c .before .before .r2 .given .1) (c .code .ensures) (sym (told-none _))
+    let s = c .before .before .before .before .before .before .before .before .before .before .before .before .before in
+    reply-long 8 toldOpened (held (openAct (s .args .count) (signedIn (s .args .balances .now)) (signedIn (s .args .lines .now)))) (lends (s .args .tables .now) [] (s .args .answer .now)) (flag-yes (c .before .before .before .before .before .before .before .before .is-lent .ensures) (c .before .before .before .before .before .before .before .if1 .left)) (c .before .before .before .before .«open» .ensures)
 
 pub snarevapor-open-spec : {M : Type 1} → statement M
 snarevapor-open-spec =
-    tie.close
-    (tie.spec
-    is-lent-requires
-    returns
-    open-requires
-    enum-known-r
-    write-i64-requires
-    enum-known-r-2
-    code-requires
-    same-length
-    same-length-2
-    returns-2
-    same-length-3
-    returns-3)
+    tie.close (tie.spec is-lent-requires returns open-requires same-length same-length-2 returns-2)

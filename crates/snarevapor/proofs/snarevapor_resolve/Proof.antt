@@ -1,9 +1,11 @@
--- `snarevapor::snarevapor_resolve` meets its contract: no loop; the reply is that of what the house answered.
-use mathlib.Core.Path.{refl, sym, ap, _∙_}
-use lib.ListN.{length}
+-- `snarevapor::snarevapor_resolve` meets its contract: no loop; the lent lengths are tested, and the call does the rest.
 use Rattle.tables.proofs.Tests.{flag-no, flag-yes}
-use Rattle.snarevapor.proofs.Replies.{lent-tables, lent-answer, told-none, short-replied, replied-of, counts-short, counts-long}
+use Rattle.answers.specs.Outcome.{called}
+use Rattle.resolving.specs.Resolve.{resolveAct}
+use Rattle.lists.specs.Bytes.{countsIn}
+use Rattle.calls.specs.Reply.{lends}
 use Rattle.calls.specs.Telling.{toldResolved}
+use Rattle.snarevapor.proofs.Replies.{lent-room, reply-long, reply-short}
 use borrow.Author.Needs.{needs}
 use Rattle.snarevapor.proofs.snarevapor_resolve.Statement.{statement}
 use Rattle.snarevapor.proofs.snarevapor_resolve.Tie as tie
@@ -13,23 +15,11 @@ is-lent-requires c κs = search needs
 
 returns : tie.Need-returns
 returns c =
-    let e = flag-no (c .before .is-lent .ensures) (c .if1 .taken) in
-    (short-replied _ e, counts-short _ _ e)
+    let s = c .before .before .before .before .before in
+    reply-short 48 toldResolved (called (resolveAct (countsIn (s .args .counts .now)))) (lends (s .args .tables .now) (s .args .counts .now) (s .args .answer .now)) (flag-no (c .before .is-lent .ensures) (c .if1 .taken))
 
 resolve-requires : tie.Need-resolve-requires
-resolve-requires c κs = lent-tables _ _ (flag-yes (c .before .before .before .is-lent .ensures) (c .before .before .if1 .left))
-
-enum-known-r : tie.Need-enum-known-r
-enum-known-r c = search needs
-
-resolution-requires : tie.Need-resolution-requires
-resolution-requires c κs = lent-answer (length (c .before .before .before .before .before .before .before .before .before .before .before .before .before .before .before .before .args .tables .now)) _ 48 (flag-yes (c .before .before .before .before .before .before .before .before .before .before .before .before .is-lent .ensures) (c .before .before .before .before .before .before .before .before .before .before .before .if1 .left))
-
-enum-known-r-2 : tie.Need-enum-known-r-2
-enum-known-r-2 c = search needs
-
-code-requires : tie.Need-code-requires
-code-requires c κs = search needs
+resolve-requires c κs = lent-room _ _ 48 (flag-yes (c .before .before .before .before .is-lent .ensures) (c .before .before .before .if1 .left))
 
 same-length : tie.Need-same-length
 same-length c = search needs
@@ -42,21 +32,8 @@ same-length-3 c = search needs
 
 returns-2 : tie.Need-returns-2
 returns-2 c =
-    let e = c .before .before .before .before .before .before .before .before .before .before .before .resolve .ensures in
-    let long = flag-yes (c .before .before .before .before .before .before .before .before .before .before .before .before .before .before .before .is-lent .ensures) (c .before .before .before .before .before .before .before .before .before .before .before .before .before .before .if1 .left) in
-    (replied-of _ long (ap toldResolved (sym (c .before .before .before .before .before .r .given .1) ∙ e .0 .0)) (e .0 .1) refl (c .before .before .resolution .ensures), counts-long _ _ long (e .1))
-
-same-length-4 : tie.Need-same-length-4
-same-length-4 c = search needs
-
-same-length-5 : tie.Need-same-length-5
-same-length-5 c = search needs
-
-returns-3 : tie.Need-returns-3
-returns-3 c =
-    let e = c .before .before .before .before .before .before .before .before .resolve .ensures in
-    let long = flag-yes (c .before .before .before .before .before .before .before .before .before .before .before .before .is-lent .ensures) (c .before .before .before .before .before .before .before .before .before .before .before .if1 .left) in
-    (replied-of _ long (ap toldResolved (sym (c .before .before .r2 .given .1) ∙ e .0 .0)) (e .0 .1) (c .code .ensures) (sym (told-none _)), counts-long _ _ long (e .1))
+    let s = c .before .before .before .before .before .before .before .before .before .before .before .before .before .before .before in
+    reply-long 48 toldResolved (called (resolveAct (countsIn (s .args .counts .now)))) (lends (s .args .tables .now) (s .args .counts .now) (s .args .answer .now)) (flag-yes (c .before .before .before .before .before .before .before .before .before .before .before .is-lent .ensures) (c .before .before .before .before .before .before .before .before .before .before .if1 .left)) (c .before .before .before .before .before .before .resolve .ensures)
 
 pub snarevapor-resolve-spec : {M : Type 1} → statement M
 snarevapor-resolve-spec =
@@ -65,14 +42,7 @@ snarevapor-resolve-spec =
     is-lent-requires
     returns
     resolve-requires
-    enum-known-r
-    resolution-requires
-    enum-known-r-2
-    code-requires
     same-length
     same-length-2
     same-length-3
-    returns-2
-    same-length-4
-    same-length-5
-    returns-3)
+    returns-2)

@@ -1,7 +1,7 @@
--- `snarevapor::tell::resolution` meets its contract: no loop; six parts, one behind the other.
+-- `calls::tell::resolution` meets its contract: no loop; six parts, one behind the other.
 use borrow.Author.Needs.{needs}
-use Rattle.snarevapor.proofs.tell.resolution.Statement.{statement}
-use Rattle.snarevapor.proofs.tell.resolution.Tie as tie
+use Rattle.calls.proofs.tell.resolution.Statement.{statement}
+use Rattle.calls.proofs.tell.resolution.Tie as tie
 
 number-requires : tie.Need-number-requires
 number-requires c κs = search needs

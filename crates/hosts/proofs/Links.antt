@@ -1,0 +1,105 @@
+-- A call on bytes that hold a state is a request on their lists, or none where the code is not 0.
+use mathlib.Core.Path.{_≡_, refl, sym, ap, _∙_, subst}
+use mathlib.Core.List.{List, [], _∷_, _++_}
+use Prim.Native.Nat.{ℕ, zero, suc, _≤_}
+use native.Mathlib.Omega.{arith}
+use lib.ListN.{length}
+use Rattle.rule.specs.Day.{Call as Noted, deposits as depositsOf, payments}
+use Rattle.tables.specs.Layout.{Tables}
+use Rattle.tables.specs.Holds.{Holds}
+use Rattle.answers.specs.Outcome.{Act, judgement, called}
+use Rattle.answers.proofs.Outcomes.{judgement-fine}
+use Rattle.entry.specs.Deposit.{depositAct}
+use Rattle.entry.specs.Submit.{submitAct}
+use Rattle.settling.specs.Release.{releaseAct}
+use Rattle.settling.specs.Group.{bookAct, groupAct}
+use Rattle.resolving.specs.Resolve.{resolveAct}
+use Rattle.lists.specs.Bytes.{tablesIn, withTables, countsIn}
+use Rattle.lists.proofs.Back.{Kept, kept-fits, stored-long, tables-back}
+use Rattle.calls.specs.Reply.{Lent, lends}
+use Rattle.calls.specs.Telling.{toldDeposited, toldSubmitted, toldReleased, toldGrouped, toldResolved}
+use Rattle.days.specs.Days as day
+use Rattle.days.specs.Days.{Request, afterAll, made}
+use Rattle.hosts.specs.Hosts.{Ask, opens, deposits, submits, releases, groups, resolves, Call, Inside, accepted, noted}
+use Rattle.hosts.proofs.Replies.{refused-keeps, Accepted, called-accepted}
+use Rattle.hosts.proofs.Sizes.{kept-after}
+
+-- bytes that hold a state, and can be stored again
+pub record Stands (s : List ℕ) : Type 0 where
+  pub room : 22528 ≤ length s
+  pub kept : Kept (tablesIn s)
+
+-- from s to t the requests qs were made, and of them cs is noted
+pub record Link (s t : List ℕ) (cs : List Noted) (qs : List Request) : Type 0 where
+  pub stands : Stands t
+  pub is : tablesIn t ≡ afterAll qs (tablesIn s)
+  pub deposits : (i : ℕ) → depositsOf (made qs (tablesIn s)) i ≡ depositsOf cs i
+  pub payments : (i : ℕ) → payments (made qs (tablesIn s)) i ≡ payments cs i
+
+-- lists that were stored are read back
+pub stored-stands : (s : List ℕ) {t : List ℕ} {W : Tables} → 22528 ≤ length s → Kept W → t ≡ withTables s W → Stands t × (tablesIn t ≡ W)
+stored-stands s {t} {W} l k e =
+    let b : tablesIn t ≡ W = ap tablesIn e ∙ tables-back s W (kept-fits k) l in
+    (record { room = rw (ap length e ∙ stored-long s W) l; kept = subst Kept (sym b) k }, b)
+
+-- the request that is made, on these lists
+abbrev pub requested : Ask → List ℕ → List Request
+requested (opens n u v) c = []
+requested (deposits m x) c = day.deposits m x ∷ []
+requested (submits m n q x) c = day.submits m n q x ∷ []
+requested (releases m) c = day.releases m ∷ []
+requested (groups u) c = day.groups (countsIn u) ∷ []
+requested resolves c = day.resolves (countsIn c) ∷ []
+
+-- an accepted call was made on a state, and stored what its request does
+pub record Took (s t : List ℕ) (cs : List Noted) (qs : List Request) : Type 0 where
+  pub room : 22528 ≤ length s
+  pub holds : Holds (tablesIn s)
+  pub stored : t ≡ withTables s (afterAll qs (tablesIn s))
+  pub deposits : (i : ℕ) → depositsOf (made qs (tablesIn s)) i ≡ depositsOf cs i
+  pub payments : (i : ℕ) → payments (made qs (tablesIn s)) i ≡ payments cs i
+
+stored-is : {A : Type 0} {k : Act A} {s t : List ℕ} → Accepted k (judgement k (tablesIn s)) s t → t ≡ withTables s (called k (tablesIn s) .after)
+unfolding called
+stored-is a = a .stored
+
+pub taken : {s t : List ℕ} (q : Ask) (c : Call q 0 s t) → Inside q 0 → Took s t (noted q) (requested q (c .counts))
+unfolding depositAct submitAct releaseAct groupAct bookAct resolveAct
+taken (opens n u v) c i = absurd (i refl)
+taken {s} (deposits m x) c i =
+    let k = depositAct m x in
+    let a = called-accepted k 8 toldDeposited (λ r. refl) (lends s (c .counts) (c .answer)) (c .promise) in
+    record { room = a .room; holds = judgement-fine k (tablesIn s) (a .fine) .0; stored = stored-is a; deposits = λ i. rw (a .fine); payments = λ i. rw (a .fine) }
+taken {s} (submits m n q x) c i =
+    let k = submitAct m n q x in
+    let a = called-accepted k 0 toldSubmitted (λ r. refl) (lends s (c .counts) (c .answer)) (c .promise) in
+    record { room = a .room; holds = judgement-fine k (tablesIn s) (a .fine) .0; stored = stored-is a; deposits = λ i. rw (a .fine); payments = λ i. rw (a .fine) }
+taken {s} (releases m) c i =
+    let k = releaseAct m in
+    let a = called-accepted k 16 toldReleased (λ r. refl) (lends s (c .counts) (c .answer)) (c .promise) in
+    record { room = a .room; holds = judgement-fine k (tablesIn s) (a .fine) .0; stored = stored-is a; deposits = λ i. rw (a .fine); payments = λ i. rw (a .fine) }
+taken {s} (groups u) c i =
+    let k = groupAct (countsIn u) in
+    let a = called-accepted k 16 toldGrouped (λ r. refl) (lends s (c .counts) (c .answer)) (c .promise) in
+    record { room = a .room; holds = judgement-fine k (tablesIn s) (a .fine) .0; stored = stored-is a; deposits = λ i. rw (a .fine); payments = λ i. rw (a .fine) }
+taken {s} resolves c i =
+    let k = resolveAct (countsIn (c .counts)) in
+    let a = called-accepted k 48 toldResolved (λ r. refl) (lends s (c .counts) (c .answer)) (c .promise) in
+    record { room = a .room; holds = judgement-fine k (tablesIn s) (a .fine) .0; stored = stored-is a; deposits = λ i. rw (a .fine); payments = λ i. rw (a .fine) }
+
+kept-all : {T : Tables} → Kept T → (qs : List Request) → Kept (afterAll qs T)
+kept-all k [] = k
+kept-all k (q ∷ qs) = kept-all (kept-after k q) qs
+
+-- what it stored is read back
+pub took-link : {s t : List ℕ} {cs : List Noted} {qs : List Request} → Kept (tablesIn s) → Took s t cs qs → Link s t cs qs
+took-link {s} {qs = qs} k a =
+    let g = stored-stands s (a .room) (kept-all k qs) (a .stored) in
+    record { stands = g .0; is = g .1; deposits = a .deposits; payments = a .payments }
+
+-- so any call is its request, or nothing
+pub linked : {s t : List ℕ} {q : Ask} {k : ℕ} → Stands s → (c : Call q k s t) → Inside q k → Link s t (accepted k (noted q)) (accepted k (requested q (c .counts)))
+linked {q = q} {k = zero} h c i = took-link (h .kept) (taken q c i)
+linked {s} {q = q} {k = suc k} h c i =
+    let e = ap (λ (x : Lent). x .tables) (refused-keeps q (lends s (c .counts) (c .answer)) (c .promise) (λ e. omega arith)) in
+    record { stands = subst Stands (sym e) h; is = ap tablesIn e; deposits = λ i. refl; payments = λ i. refl }
