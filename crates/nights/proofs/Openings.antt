@@ -1,0 +1,269 @@
+-- Lines that open a house: the tables are those of an accepted open, with the balances and the lines that the member lines give.
+use mathlib.Core.Path.{_≡_, refl, sym, ap, _∙_, subst}
+use mathlib.Core.Bool.{Bool, true, false, cond, _&&_, false≢true}
+use mathlib.Core.List.{List, [], _∷_, _++_, append-nil, append-assoc}
+use Prim.Native.Nat.{ℕ, _+_, _<_}
+use native.Mathlib.Omega.{arith}
+use native.Mathlib.Numerals.{add-one}
+use borrow.Author.Tests.{leb-true, ltb-true, ltb-false}
+use lib.Dec.{eqb, leb, ltb}
+use lib.IntN.{ℤ, pos}
+use lib.ListN.{length, take, drop, set, length-set, length-drop, length-replicate}
+use lib.Seq.{take-suc-set, take-set-le, drop-set-lt, drop-set-add}
+use Rattle.tables.specs.Sizes.{members}
+use Rattle.tables.specs.Layout.{Tables}
+use Rattle.tables.proofs.Tests.{and-both}
+use Rattle.answers.specs.Outcome.{Outcome, outcome, held}
+use Rattle.answers.specs.declared.Refusal.the-variants as R
+use Rattle.answers.specs.declared.Opened.{Opened}
+use Rattle.answers.specs.declared.Opened.the-variants as opening
+use Rattle.answers.specs.Codes.{first}
+use Rattle.answers.specs.declared.Judged.the-variants.{Fine}
+use Rattle.answers.proofs.Outcomes.{done-fine}
+use Rattle.opening.specs.Open.{openAct}
+use Rattle.opening.proofs.Judging.{Opens as OpenFine, open-fine}
+use Rattle.dayfile.specs.declared.Entry.{Entry}
+use Rattle.dayfile.specs.declared.Entry.the-variants as E
+use Rattle.cut.specs.Lines.{Line}
+use Rattle.cut.specs.Chunks.{runOf}
+use Rattle.night.specs.declared.Stage.{Stage}
+use Rattle.night.specs.declared.Stage.the-variants as G
+use Rattle.night.specs.Lines.{Did, quiet, stops, houseDoes, given, openStage, balancesGiven, linesGiven, openDoes, givenDoes, memberDoes, dayDoes, doesOf}
+use Rattle.night.specs.Stands.{Sized, Giving}
+use Rattle.sheet.specs.Sheet.{mostLines, Night, told, isOver, entryIn, countsIn, after, stopped, stepOf, morning}
+use Rattle.days.specs.Days.{Begun}
+use Rattle.nights.specs.Files.{balanceOf, creditOf, balancesIn, creditsIn, membersOf, nightAfter, Opens, openedBy}
+use Rattle.nights.proofs.Runs.{run-join}
+
+-- ---- what was given so far
+
+-- k of the count members, with the balances b and the lines l
+record Gives (count k : ℕ) (t : Tables) (b l : List ℤ) : Type 0 where
+  pub giving : Giving count k t
+  pub balances : take k (t .accounts) ≡ b
+  pub lines : take k (drop 64 (t .accounts)) ≡ l
+
+record None (t : Tables) (b l : List ℤ) : Type 0 where
+  pub sized : Sized t
+  pub balances : b ≡ []
+  pub lines : l ≡ []
+
+abbrev Gave : Stage → Tables → List ℤ → List ℤ → Type 0
+Gave G.House t b l = None t b l
+Gave (G.Members count k) t b l = Gives count k t b l
+Gave G.Day t b l = Unit {0}
+Gave (G.Ending k) t b l = Unit {0}
+Gave G.Over t b l = Unit {0}
+
+-- one member more
+module _ {count k : ℕ} {t : Tables} {b l : List ℤ} (g : Gives count k t b l) (x : ℤ) (y : ℕ) where
+  given-balances : take (k + 1) (given t k x y .accounts) ≡ b ++ (x ∷ [])
+  given-balances =
+      rw (take-set-le (k + 1) (set (t .accounts) k x) (64 + k) (pos y) (omega arith), add-one, take-suc-set (t .accounts) k x (omega (arith, g .giving .few, g .giving .next, g .giving .sized .long)), g .balances)
+
+  given-lines : take (k + 1) (drop 64 (given t k x y .accounts)) ≡ l ++ (pos y ∷ [])
+  given-lines =
+      let r : k < length (drop 64 (t .accounts)) = omega (arith, length-drop 64 (t .accounts), g .giving .few, g .giving .next, g .giving .sized .long) in
+      rw (drop-set-add 64 (set (t .accounts) k x) k (pos y), drop-set-lt 64 (t .accounts) k x (omega (arith, g .giving .few, g .giving .next)), add-one, take-suc-set (drop 64 (t .accounts)) k (pos y) r, g .lines)
+
+  gives-next : k + 1 < count → Gives count (k + 1) (given t k x y) (b ++ (x ∷ [])) (l ++ (pos y ∷ []))
+  gives-next h = record {
+    giving = record { few = g .giving .few; next = h; sized = record { long = simp length-set (g .giving .sized .long); broad = g .giving .sized .broad; deep = g .giving .sized .deep } };
+    balances = given-balances;
+    lines = given-lines;
+  }
+
+-- ---- a line
+
+open-gave : (o : Opened) (t : Tables) (b l : List ℤ) → Gave (told (openStage o)) t b l
+open-gave (opening.Done s) t b l = tt
+open-gave (opening.Refused r) t b l = tt
+
+house-gave : (n : ℕ) (t : Tables) (b l : List ℤ) → None t b l → (e : Entry) → Gave (told (houseDoes n t e .stage)) (houseDoes n t e .after) (b ++ balanceOf e) (l ++ creditOf e)
+house-gave n t b l g (E.House count) = go (leb 1 count && leb count members) refl
+  where
+    go : (p : Bool) → (leb 1 count && leb count members) ≡ p → Gave (told (cond p (quiet (G.Members count 0) t) (stops n R.Opening t) .stage)) (cond p (quiet (G.Members count 0) t) (stops n R.Opening t) .after) (b ++ []) (l ++ [])
+    go true e =
+        let q = and-both (leb 1 count) (leb count members) e in
+        record { giving = record { few = leb-true count members (q .1); next = leb-true 1 count (q .0); sized = g .sized }; balances = sym (append-nil b ∙ g .balances); lines = sym (append-nil l ∙ g .lines) }
+    go false e = tt
+house-gave n t b l g (E.Member m x y) = tt
+house-gave n t b l g (E.Pay m k q x) = tt
+house-gave n t b l g (E.Deposit m x) = tt
+house-gave n t b l g (E.Release m) = tt
+house-gave n t b l g (E.Group m) = tt
+house-gave n t b l g E.Resolve = tt
+house-gave n t b l g E.End = tt
+house-gave n t b l g E.Bad = tt
+
+module _ (n count k : ℕ) (t : Tables) {b l : List ℤ} (g : Gives count k t b l) where
+  given-gave : (x : ℤ) (y : ℕ) (p : Bool) → ltb (k + 1) count ≡ p
+      → Gave (told (cond p (quiet (G.Members count (k + 1)) (given t k x y)) (openDoes n count (given t k x y)) .stage)) (cond p (quiet (G.Members count (k + 1)) (given t k x y)) (openDoes n count (given t k x y)) .after) (b ++ (x ∷ [])) (l ++ (pos y ∷ []))
+  given-gave x y true e = gives-next g x y (ltb-true (k + 1) count e)
+  given-gave x y false e =
+      let u = held (openAct count (balancesGiven count (given t k x y)) (linesGiven count (given t k x y))) (given t k x y) in
+      open-gave (u .answer) (u .after) (b ++ (x ∷ [])) (l ++ (pos y ∷ []))
+
+  member-by : (x : ℤ) (y : ℕ) (p : Bool)
+      → Gave (told (cond p (givenDoes n count k (given t k x y)) (stops n R.Line t) .stage)) (cond p (givenDoes n count k (given t k x y)) (stops n R.Line t) .after) (b ++ (x ∷ [])) (l ++ (pos y ∷ []))
+  member-by x y true = given-gave x y (ltb (k + 1) count) refl
+  member-by x y false = tt
+
+  member-gave : (e : Entry) → Gave (told (memberDoes n count k t e .stage)) (memberDoes n count k t e .after) (b ++ balanceOf e) (l ++ creditOf e)
+  member-gave (E.House m) = tt
+  member-gave (E.Member m x y) = member-by x y (eqb m (k + 1))
+  member-gave (E.Pay m i q x) = tt
+  member-gave (E.Deposit m x) = tt
+  member-gave (E.Release m) = tt
+  member-gave (E.Group m) = tt
+  member-gave E.Resolve = tt
+  member-gave E.End = tt
+  member-gave E.Bad = tt
+
+day-gave : (n : ℕ) (t : Tables) (e : Entry) (vs : List ℕ) (b l : List ℤ) → Gave (told (dayDoes n t e vs .stage)) (dayDoes n t e vs .after) b l
+day-gave n t (E.House m) vs b l = tt
+day-gave n t (E.Member m x y) vs b l = tt
+day-gave n t (E.Pay m k q x) vs b l = tt
+day-gave n t (E.Deposit m x) vs b l = tt
+day-gave n t (E.Release m) vs b l = tt
+day-gave n t (E.Group m) vs b l = tt
+day-gave n t E.Resolve vs b l = tt
+day-gave n t E.End vs b l = tt
+day-gave n t E.Bad vs b l = tt
+
+does-gave : (n : ℕ) (s : Stage) (t : Tables) (e : Entry) (vs : List ℕ) (b l : List ℤ) → Gave s t b l → Gave (told (doesOf n s t e vs .stage)) (doesOf n s t e vs .after) (b ++ balanceOf e) (l ++ creditOf e)
+does-gave n G.House t e vs b l g = house-gave n t b l g e
+does-gave n (G.Members count k) t e vs b l g = member-gave n count k t g e
+does-gave n G.Day t e vs b l g = day-gave n t e vs (b ++ balanceOf e) (l ++ creditOf e)
+does-gave n (G.Ending k) t e vs b l g = tt
+does-gave n G.Over t e vs b l g = tt
+
+over-gave : (s : Stage) → isOver s ≡ true → (t : Tables) (b l : List ℤ) → Gave (told s) t b l
+over-gave G.House e t b l = absurd (false≢true e)
+over-gave (G.Members count k) e t b l = absurd (false≢true e)
+over-gave G.Day e t b l = tt
+over-gave (G.Ending k) e t b l = tt
+over-gave G.Over e t b l = tt
+
+step-gave : (d : Night) (x : Line) (b l : List ℤ) → Gave (d .stage) (d .tables) b l → Gave (stepOf d x .stage) (stepOf d x .tables) (b ++ balanceOf (entryIn x)) (l ++ creditOf (entryIn x))
+step-gave d x b l g = go (isOver (d .stage)) refl (ltb (d .lines) mostLines)
+  where
+    r : Did
+    r = doesOf (d .lines + 1) (d .stage) (d .tables) (entryIn x) (countsIn x)
+
+    go : (o : Bool) → isOver (d .stage) ≡ o → (p : Bool) → Gave (told (cond o d (cond p (after d r) (stopped (d .lines + 1) d)) .stage)) (cond o d (cond p (after d r) (stopped (d .lines + 1) d)) .tables) (b ++ balanceOf (entryIn x)) (l ++ creditOf (entryIn x))
+    go true e p = over-gave (d .stage) e (d .tables) (b ++ balanceOf (entryIn x)) (l ++ creditOf (entryIn x))
+    go false e true = does-gave (d .lines + 1) (d .stage) (d .tables) (entryIn x) (countsIn x) b l g
+    go false e false = tt
+
+-- ---- the last line of the opening
+
+module _ (n count k : ℕ) (t : Tables) {b l : List ℤ} (g : Gives count k t b l) where
+  open-begun : (x : ℤ) (y : ℕ) → k + 1 ≡ count → told (openDoes n count (given t k x y) .stage) ≡ G.Day
+      → Begun count (b ++ (x ∷ [])) (l ++ (pos y ∷ [])) (openDoes n count (given t k x y) .after)
+  open-begun x y c q = go (u .answer) refl q
+    where
+      v : Tables
+      v = given t k x y
+
+      u : Outcome Opened
+      u = held (openAct count (balancesGiven count v) (linesGiven count v)) v
+
+      eb : balancesGiven count v ≡ b ++ (x ∷ [])
+      eb = ap (λ i. take i (v .accounts)) (sym c) ∙ given-balances g x y
+
+      el : linesGiven count v ≡ l ++ (pos y ∷ [])
+      el = ap (λ i. take i (drop 64 (v .accounts))) (sym c) ∙ given-lines g x y
+
+      go : (o : Opened) → u .answer ≡ o → told (openStage o) ≡ G.Day → Begun count (b ++ (x ∷ [])) (l ++ (pos y ∷ [])) (u .after)
+      go (opening.Done s) e q = record {
+        before = v;
+        sum = s;
+        promise = ap (λ z. held (openAct count z (l ++ (pos y ∷ []))) v) (sym eb) ∙ ap (λ z. held (openAct count (balancesGiven count v) z) v) (sym el) ∙ ap (λ a. outcome a (u .after)) e;
+      }
+      go (opening.Refused r) e q = let z : _≡_ {A = ℕ} 0 1 = cc in absurd (omega arith)
+
+  given-begun : (x : ℤ) (y : ℕ) (p : Bool) → ltb (k + 1) count ≡ p → told (cond p (quiet (G.Members count (k + 1)) (given t k x y)) (openDoes n count (given t k x y)) .stage) ≡ G.Day
+      → Begun count (b ++ (x ∷ [])) (l ++ (pos y ∷ [])) (cond p (quiet (G.Members count (k + 1)) (given t k x y)) (openDoes n count (given t k x y)) .after)
+  given-begun x y true e q = let z : _≡_ {A = ℕ} 0 1 = cc in absurd (omega arith)
+  given-begun x y false e q = open-begun x y (omega (arith, ltb-false (k + 1) count e, g .giving .next)) q
+
+  by-begun : (x : ℤ) (y : ℕ) (p : Bool) → told (cond p (givenDoes n count k (given t k x y)) (stops n R.Line t) .stage) ≡ G.Day
+      → Begun count (b ++ (x ∷ [])) (l ++ (pos y ∷ [])) (cond p (givenDoes n count k (given t k x y)) (stops n R.Line t) .after)
+  by-begun x y true q = given-begun x y (ltb (k + 1) count) refl q
+  by-begun x y false q = let z : _≡_ {A = ℕ} 0 1 = cc in absurd (omega arith)
+
+  member-begun : (e : Entry) → told (memberDoes n count k t e .stage) ≡ G.Day → Begun count (b ++ balanceOf e) (l ++ creditOf e) (memberDoes n count k t e .after)
+  member-begun (E.House m) q = let z : _≡_ {A = ℕ} 0 1 = cc in absurd (omega arith)
+  member-begun (E.Member m x y) q = by-begun x y (eqb m (k + 1)) q
+  member-begun (E.Pay m i p x) q = let z : _≡_ {A = ℕ} 0 1 = cc in absurd (omega arith)
+  member-begun (E.Deposit m x) q = let z : _≡_ {A = ℕ} 0 1 = cc in absurd (omega arith)
+  member-begun (E.Release m) q = let z : _≡_ {A = ℕ} 0 1 = cc in absurd (omega arith)
+  member-begun (E.Group m) q = let z : _≡_ {A = ℕ} 0 1 = cc in absurd (omega arith)
+  member-begun E.Resolve q = let z : _≡_ {A = ℕ} 0 1 = cc in absurd (omega arith)
+  member-begun E.End q = let z : _≡_ {A = ℕ} 0 1 = cc in absurd (omega arith)
+  member-begun E.Bad q = let z : _≡_ {A = ℕ} 0 1 = cc in absurd (omega arith)
+
+-- the same night at a stage
+abbrev nightAt : Night → Stage → Night
+nightAt d s = record { lines = d .lines; stage = s; tables = d .tables; sheet = d .sheet }
+
+step-begun : (d : Night) (x : Line) {count k : ℕ} {b l : List ℤ} → d .stage ≡ G.Members count k → Gives count k (d .tables) b l → stepOf d x .stage ≡ G.Day
+    → Begun count (b ++ balanceOf (entryIn x)) (l ++ creditOf (entryIn x)) (stepOf d x .tables)
+step-begun d x {count} {k} {b} {l} e g q =
+    let s : stepOf d x ≡ stepOf (nightAt d (G.Members count k)) x = ap (λ i. stepOf (nightAt d i) x) e in
+    subst (λ (v : Night). Begun count (b ++ balanceOf (entryIn x)) (l ++ creditOf (entryIn x)) (v .tables)) (sym s) (go (ltb (d .lines) mostLines) (sym (ap (λ (v : Night). v .stage) s) ∙ q))
+  where
+    f : Night
+    f = nightAt d (G.Members count k)
+
+    r : Did
+    r = memberDoes (d .lines + 1) count k (d .tables) (entryIn x)
+
+    go : (p : Bool) → told (cond p (after f r) (stopped (d .lines + 1) f) .stage) ≡ G.Day → Begun count (b ++ balanceOf (entryIn x)) (l ++ creditOf (entryIn x)) (cond p (after f r) (stopped (d .lines + 1) f) .tables)
+    go true h = member-begun (d .lines + 1) count k (d .tables) g (entryIn x) h
+    go false h = let z : _≡_ {A = ℕ} 0 1 = cc in absurd (omega arith)
+
+-- ---- all of them
+
+run-gave : (d : Night) (ls : List Line) (b l : List ℤ) → Gave (d .stage) (d .tables) b l → Gave (runOf stepOf d ls .stage) (runOf stepOf d ls .tables) (b ++ balancesIn ls) (l ++ creditsIn ls)
+unfolding runOf
+run-gave d [] b l g = rw (append-nil b, append-nil l) g
+run-gave d (x ∷ ls) b l g =
+    rw (sym (append-assoc b (balanceOf (entryIn x)) (balancesIn ls)), sym (append-assoc l (creditOf (entryIn x)) (creditsIn ls)))
+    (run-gave (stepOf d x) ls (b ++ balanceOf (entryIn x)) (l ++ creditOf (entryIn x)) (step-gave d x b l g))
+
+balances-join : (ls : List Line) (x : Line) → balancesIn (ls ++ (x ∷ [])) ≡ balancesIn ls ++ balanceOf (entryIn x)
+balances-join [] x = append-nil (balanceOf (entryIn x))
+balances-join (y ∷ ls) x = ap (λ (r : List ℤ). balanceOf (entryIn y) ++ r) (balances-join ls x) ∙ sym (append-assoc (balanceOf (entryIn y)) (balancesIn ls) (balanceOf (entryIn x)))
+
+credits-join : (ls : List Line) (x : Line) → creditsIn (ls ++ (x ∷ [])) ≡ creditsIn ls ++ creditOf (entryIn x)
+credits-join [] x = append-nil (creditOf (entryIn x))
+credits-join (y ∷ ls) x = ap (λ (r : List ℤ). creditOf (entryIn y) ++ r) (credits-join ls x) ∙ sym (append-assoc (creditOf (entryIn y)) (creditsIn ls) (creditOf (entryIn x)))
+
+morning-gave : Gave G.House (morning .tables) [] []
+morning-gave = record { sized = record { long = rw (length-replicate 512 (pos 0)) (omega arith); broad = rw (length-replicate {A = ℕ} 512 0) (omega arith); deep = rw (length-replicate {A = ℕ} 2048 0) (omega arith) }; balances = refl; lines = refl }
+
+-- an accepted open gives as many balances as members
+begun-length : {n : ℕ} {b l : List ℤ} {T : Tables} → Begun n b l T → length b ≡ n
+unfolding held openAct
+begun-length {n} {b} {l} {T} o =
+    let j : first (openAct n b l .tests (o .before)) ≡ Fine = done-fine (openAct n b l) (o .before) (first (openAct n b l .tests (o .before))) (outcome (opening.Done (o .sum)) T) (λ r e. let z : _≡_ {A = ℕ} 0 1 = cc in omega arith) (o .promise) in
+    let f : OpenFine (o .before) n b l = open-fine j in
+    f .opening .balances
+
+lines-begun : {ls : List Line} (o : Opens ls) → Begun (o .count) (balancesIn ls) (creditsIn ls) (openedBy ls)
+unfolding runOf
+lines-begun {ls} o =
+    let d = nightAfter (o .earlier) in
+    let s : nightAfter ls ≡ stepOf d (o .last) = ap nightAfter (o .parts) ∙ run-join morning (o .earlier) (o .last ∷ []) in
+    let g : Gives (o .count) (o .given) (d .tables) (balancesIn (o .earlier)) (creditsIn (o .earlier)) =
+    subst (λ (v : Stage). Gave v (d .tables) (balancesIn (o .earlier)) (creditsIn (o .earlier))) (o .awaits) (run-gave morning (o .earlier) [] [] morning-gave) in
+    let b : Begun (o .count) (balancesIn (o .earlier) ++ balanceOf (entryIn (o .last))) (creditsIn (o .earlier) ++ creditOf (entryIn (o .last))) (stepOf d (o .last) .tables) =
+    step-begun d (o .last) (o .awaits) g (sym (ap (λ (v : Night). v .stage) s) ∙ o .opens) in
+    rw (ap balancesIn (o .parts) ∙ balances-join (o .earlier) (o .last), ap creditsIn (o .parts) ∙ credits-join (o .earlier) (o .last))
+    (subst (λ (v : Night). Begun (o .count) (balancesIn (o .earlier) ++ balanceOf (entryIn (o .last))) (creditsIn (o .earlier) ++ creditOf (entryIn (o .last))) (v .tables)) (sym s) b)
+
+-- the lines that open a house are an accepted open of the members, balances and lines that they give
+pub opens-begun : {ls : List Line} → Opens ls → Begun (membersOf ls) (balancesIn ls) (creditsIn ls) (openedBy ls)
+opens-begun {ls} o = subst (λ n. Begun n (balancesIn ls) (creditsIn ls) (openedBy ls)) (sym (begun-length (lines-begun o))) (lines-begun o)
