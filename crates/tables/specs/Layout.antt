@@ -1,12 +1,33 @@
 -- What stands where in the three lent lists: a (accounts), c (counters) and p (places). See docs/TABLES.md. Members are counted from 0.
 use mathlib.Core.List.{List}
-use Prim.Native.Nat.{ℕ, _+_}
+use Prim.Native.Nat.{ℕ, _+_, _*_}
 use lib.IntN.{ℤ, pos}
 use lib.ListN.{getD, take}
 use Rattle.rule.specs.Ints.{up}
 use Rattle.rule.specs.House.{House, money}
 use Rattle.rule.specs.Table.{queueOf}
 use Rattle.tables.specs.Sizes.{members}
+
+-- ---- where the blocks begin, one entry for each of 64 members
+
+-- the accounts: balances first, then lines; the rest is spare
+abbrev pub linesAt : ℕ
+linesAt = members
+
+abbrev pub spareAccountsAt : ℕ
+spareAccountsAt = 2 * members
+
+-- the counters: how many members and how many payments wait, then last accepted numbers, then how many were settled; the rest is spare
+abbrev pub lastsAt : ℕ
+lastsAt = members
+
+abbrev pub settledAt : ℕ
+settledAt = 2 * members
+
+abbrev pub spareCountersAt : ℕ
+spareCountersAt = 3 * members
+
+-- ---- what stands there
 
 -- how many members the house has
 abbrev pub countOf : List ℕ → ℕ

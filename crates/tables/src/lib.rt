@@ -1,7 +1,8 @@
 // The tables that a host lends: the house's fixed numbers, what stands where, and whether lent tables hold a state.
 ghost use mathlib.Core.Path.{_≡_};
-ghost use Prim.Native.Nat.{_+_, _*_, _≤_};
-ghost use Rattle.tables.specs.Sizes.{members, places, table, limit, most, highest, lastNumber};
+ghost use Prim.Native.Nat.{_≤_};
+ghost use Rattle.tables.specs.Sizes.{members, places, table, bytes, limit, mostAmount, mostLine, most, highest, lastNumber};
+ghost use Rattle.tables.specs.Layout.{linesAt, spareAccountsAt, lastsAt, settledAt, spareCountersAt};
 
 pub mod look;
 pub mod steps;
@@ -20,6 +21,24 @@ impl House {
 
     // The least length of the accounts, and of the counters.
     pub const TABLE: usize = 512;
+
+    // Where the lines begin in the accounts, and from where on those are spare.
+    pub const LINES_AT: usize = House::MEMBERS;
+
+    pub const SPARE_ACCOUNTS_AT: usize = 2 * House::MEMBERS;
+
+    // Where the last accepted numbers begin in the counters, and how many were settled; from where on they are spare.
+    pub const LASTS_AT: usize = House::MEMBERS;
+
+    pub const SETTLED_AT: usize = 2 * House::MEMBERS;
+
+    pub const SPARE_COUNTERS_AT: usize = 3 * House::MEMBERS;
+
+    // An amount and a deposit are at most this.
+    pub const MOST_AMOUNT: u64 = 1_000_000_000_000;
+
+    // A line is at most this.
+    pub const MOST_LINE: u64 = 1_000_000_000_000;
 
     // An amount, a deposit and a line are at most this.
     pub const LIMIT: u64 = 1_000_000_000_000;
@@ -41,5 +60,8 @@ impl House {
 pub fn tied()
     ensures { λ _. do ⌜ ((← ⟦House::MEMBERS⟧ .entry) ≡ members) × ((← ⟦House::PLACES⟧ .entry) ≡ places) × ((← ⟦House::TABLE⟧ .entry) ≡ table) × ((← ⟦House::LIMIT⟧ .entry) ≡ limit) ⌝ }
     ensures { λ _. do ⌜ ((← ⟦House::MOST⟧ .entry) ≡ most) × ((← ⟦House::HIGHEST⟧ .entry) ≡ highest) × ((← ⟦House::LAST_NUMBER⟧ .entry) ≡ lastNumber) ⌝ }
-    ensures { λ _. do ⌜ ((← ⟦House::BYTES⟧ .entry) ≡ table * 8 + table * 4 + places * 8) × ((← ⟦House::BYTES⟧ .entry) ≤ 65536) ⌝ }
+    ensures { λ _. do ⌜ ((← ⟦House::MOST_AMOUNT⟧ .entry) ≡ mostAmount) × ((← ⟦House::MOST_LINE⟧ .entry) ≡ mostLine) ⌝ }
+    ensures { λ _. do ⌜ ((← ⟦House::LINES_AT⟧ .entry) ≡ linesAt) × ((← ⟦House::SPARE_ACCOUNTS_AT⟧ .entry) ≡ spareAccountsAt) ⌝ }
+    ensures { λ _. do ⌜ ((← ⟦House::LASTS_AT⟧ .entry) ≡ lastsAt) × ((← ⟦House::SETTLED_AT⟧ .entry) ≡ settledAt) × ((← ⟦House::SPARE_COUNTERS_AT⟧ .entry) ≡ spareCountersAt) ⌝ }
+    ensures { λ _. do ⌜ ((← ⟦House::BYTES⟧ .entry) ≡ bytes) × ((← ⟦House::BYTES⟧ .entry) ≤ 65536) ⌝ }
 {}
