@@ -3,8 +3,9 @@
 # here, since its file is large. Ends in 'N passed, M failed'.
 set -u
 cd "$(dirname "$0")/.." || exit 2
+. tests/ask
+ask check nightsheet
 sheet=target/bin/nightsheet
-[ -x "$sheet" ] || rt check nightsheet >/dev/null || exit 2
 got=$(mktemp) || exit 2
 trap 'rm -f "$got"' EXIT
 passed=0 failed=0

@@ -2,7 +2,7 @@
 
 use crate::bytetest;
 use crate::house::House;
-use crate::largest::{by_prefix_search, by_take_off, by_trying_all, slowly};
+use crate::largest::{by_building_up, by_prefix_search, by_take_off, by_trying_all, slowly};
 use crate::nights;
 use crate::random::Random;
 use crate::sheet::sheet_of;
@@ -27,7 +27,7 @@ pub fn run(seed: u64, rounds: u64) -> Result<String, String> {
     for round in 0..rounds {
         let wrong = |what: String| format!("seed {seed}, round {round}: {what}");
         let house = small_house(&mut random);
-        three_ways(&house, &mut seen).map_err(wrong)?;
+        all_ways(&house, &mut seen).map_err(wrong)?;
         let (first, second) = (random.draw(), random.draw());
         one_rule(&mut random, first, second, &mut seen).map_err(wrong)?;
         if round % 4 == 0 {
@@ -35,15 +35,15 @@ pub fn run(seed: u64, rounds: u64) -> Result<String, String> {
             bytetest::a_day(&mut random, house, &mut seen).map_err(wrong)?;
         }
         if round % 200 == 0 {
-            two_ways(&large_house(&mut random), &mut seen).map_err(wrong)?;
+            large_ways(&large_house(&mut random), &mut seen).map_err(wrong)?;
         }
         if round % 20 == 0 {
             fast_and_slow(&mut random, &mut seen).map_err(wrong)?;
         }
     }
     Ok(format!(
-        "{rounds} small houses, three ways each, verdicts {:?}; {} days against the rule; {} calls in bytes, codes 0 to 12 {:?}; \
-         {} tables with a state, {} without; {} large houses, two ways; {} nights fast and slow",
+        "{rounds} small houses, four ways each, verdicts {:?}; {} days against the rule; {} calls in bytes, codes 0 to 12 {:?}; \
+         {} tables with a state, {} without; {} large houses, three ways; {} nights fast and slow",
         seen.verdicts, seen.days, seen.calls, seen.codes, seen.states, seen.no_states, seen.large, seen.nights
     ))
 }
@@ -117,7 +117,7 @@ fn by_definition(house: &House) -> (Vec<usize>, bool) {
 }
 
 /// All ways give the same set; it is allowed; and the verdict says what the definition says.
-fn three_ways(house: &House, seen: &mut Seen) -> Result<(), String> {
+fn all_ways(house: &House, seen: &mut Seen) -> Result<(), String> {
     let tried = by_trying_all(house).ok_or("a small house has too many sets")?;
     let (defined, any) = by_definition(house);
     must(house.allows(&tried), || format!("the join is not allowed: {tried:?} {house:?}"))?;
@@ -125,6 +125,8 @@ fn three_ways(house: &House, seen: &mut Seen) -> Result<(), String> {
     let (search, taken) = (by_prefix_search(house), by_take_off(house));
     must(tried == search, || format!("tried {tried:?}, searched {search:?}: {house:?}"))?;
     must(tried == taken, || format!("tried {tried:?}, taken off {taken:?}: {house:?}"))?;
+    let built = by_building_up(house);
+    must(tried == built, || format!("tried {tried:?}, built up {built:?}: {house:?}"))?;
     let (waited, money) = (house.waiting(), house.money());
     let mut after = house.clone();
     let resolved = after.resolve(by_take_off);
@@ -141,10 +143,12 @@ fn three_ways(house: &House, seen: &mut Seen) -> Result<(), String> {
     Ok(())
 }
 
-/// On a large house two ways give the same allowed set.
-fn two_ways(house: &House, seen: &mut Seen) -> Result<(), String> {
+/// On a large house the three ways that do not try all sets give the same allowed set.
+fn large_ways(house: &House, seen: &mut Seen) -> Result<(), String> {
     let (search, taken) = (by_prefix_search(house), by_take_off(house));
     must(search == taken, || format!("searched {search:?}, taken off {taken:?}: {house:?}"))?;
+    let built = by_building_up(house);
+    must(built == taken, || format!("built up {built:?}, taken off {taken:?}: {house:?}"))?;
     must(house.allows(&taken), || format!("not allowed {taken:?}: {house:?}"))?;
     seen.large += 1;
     Ok(())
