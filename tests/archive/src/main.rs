@@ -1,11 +1,12 @@
 //! `archive ROUNDS SEED`: the static archive against the second program. Each round makes calls, right and wrong ones, on a house and on
 //! damaged tables. Code, answer, counts and every byte of the tables must be equal, and no byte beside them may change.
-//! `archive times`: how long each call takes, both ways.
+//! Before that come the rows of rows.txt, whose answers were written by hand. `archive times`: how long each call takes, both ways.
 #![deny(warnings)]
 
 mod guarded;
 mod houses;
 mod linked;
+mod rows;
 mod times;
 
 use reading::bytetest::{any_call, in_bytes, Call, Lent};
@@ -39,6 +40,7 @@ fn main() -> ExitCode {
     };
     println!("archive: seed {seed}, {rounds} rounds");
     let mut seen = Seen::default();
+    (seen.passed, seen.failed) = rows::play(include_str!("../rows.txt"));
     for round in 0..rounds {
         // Each round has its own row of numbers, so that one can be made again alone.
         let mut random = Random::new(seed ^ round.wrapping_mul(0x2545_f491_4f6c_dd1d));
