@@ -36,25 +36,6 @@ extern "C" {
     ) -> u32;
 }
 
-/// Makes a call on the archive with what is lent.
-pub fn direct(call: &Call, tables: &mut [u8], counts: &mut [u8], answer: &mut [u8]) -> u32 {
-    let (t, tl, c, cl) = (tables.as_mut_ptr(), tables.len(), counts.as_mut_ptr(), counts.len());
-    let (a, al) = (answer.as_mut_ptr(), answer.len());
-    // Each pointer is that of a slice of its own, with as many bytes as its length says.
-    unsafe {
-        match call {
-            Call::Open { count, balances, lines } => {
-                snarevapor_open(t, tl, *count, balances.as_ptr(), balances.len(), lines.as_ptr(), lines.len(), a, al)
-            }
-            Call::Deposit { member, amount } => snarevapor_deposit(t, tl, *member, *amount, a, al),
-            Call::Submit { payer, number, payee, amount } => snarevapor_submit(t, tl, *payer, *number, *payee, *amount),
-            Call::Release { member } => snarevapor_release(t, tl, *member, a, al),
-            Call::Group => snarevapor_group(t, tl, c, cl, a, al),
-            Call::Resolve => snarevapor_resolve(t, tl, c, cl, a, al),
-        }
-    }
-}
-
 /// Makes a call on the archive with copies of what is lent, `shift` bytes into their rooms. What is lent then holds what came back. Tells
 /// the code, or that a byte beside a slice, or in a list that is only read, has changed.
 pub fn in_archive(call: &Call, lent: &mut Lent, shift: usize) -> Result<u32, String> {

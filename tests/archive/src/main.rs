@@ -1,13 +1,12 @@
 //! `archive ROUNDS SEED`: the static archive against the second program. Each round makes calls, right and wrong ones, on a house and on
 //! damaged tables. Code, answer, counts and every byte of the tables must be equal, and no byte beside them may change.
-//! Before that come the rows of rows.txt, whose answers were written by hand. `archive times`: how long each call takes, both ways.
+//! Before that come the rows of rows.txt, whose answers were written by hand.
 #![deny(warnings)]
 
 mod guarded;
 mod houses;
 mod linked;
 mod rows;
-mod times;
 
 use reading::bytetest::{any_call, in_bytes, Call, Lent};
 use reading::house::House;
@@ -31,11 +30,8 @@ struct Seen {
 
 fn main() -> ExitCode {
     let words: Vec<u64> = std::env::args().skip(1).filter_map(|w| w.parse().ok()).collect();
-    if std::env::args().nth(1).as_deref() == Some("times") {
-        return times::tell();
-    }
     let &[rounds, seed] = words.as_slice() else {
-        eprintln!("usage: archive ROUNDS SEED, or archive times");
+        eprintln!("usage: archive ROUNDS SEED");
         return ExitCode::from(2);
     };
     println!("archive: seed {seed}, {rounds} rounds");

@@ -1,6 +1,6 @@
 //! The calls of the host, over lent bytes. Each answers its code; 0 is accepted. A refusal changes no byte.
 
-use crate::house::{Finder, House, ACCEPTED, BAD_COUNTS, BAD_OPENING, MOST_MEMBERS, NO_TABLES};
+use crate::house::{House, ACCEPTED, BAD_COUNTS, BAD_OPENING, MOST_MEMBERS, NO_TABLES};
 use crate::largest;
 use crate::tables::{decode, encode, read_i64, write, LEAST};
 
@@ -95,17 +95,12 @@ pub fn group(tables: &mut [u8], counts: &[u8], answer: &mut [u8]) -> u32 {
 
 /// Resolve: 1, 10. The counts go into the lent list. The answer is verdict, payments, sum, set of members still waiting, how many, lowest.
 pub fn resolve(tables: &mut [u8], counts: &mut [u8], answer: &mut [u8]) -> u32 {
-    resolve_by(largest::slowly, tables, counts, answer)
-}
-
-/// Resolve, with the largest allowed set found in the given way.
-pub fn resolve_by(finder: Finder, tables: &mut [u8], counts: &mut [u8], answer: &mut [u8]) -> u32 {
     code((|| {
         let mut house = lent(tables, answer, 6)?;
         if counts.len() != 2 * house.members.len() {
             return Err(BAD_COUNTS);
         }
-        let resolved = house.resolve(finder);
+        let resolved = house.resolve(largest::slowly);
         encode(&house, tables);
         for (m, count) in resolved.counts.iter().enumerate() {
             write(counts, 2 * m, 2, *count as i128);
