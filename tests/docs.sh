@@ -1,6 +1,6 @@
 #!/bin/sh
 # The documents tell the truth. About names: each law that docs/ cites, as `rule/Demands.largest-exists`, stands in that file, and each path
-# that the README or docs/ gives is there. About numbers: those of the house, where its tables stand and its codes, in the documents and in
+# that the README or docs/ gives is there (those within a crate, as `specs/`, are of no one crate). About numbers: those of the house, where its tables stand and its codes, in the documents and in
 # the header, are the ones that the crates define. Ends in 'N passed, M failed'.
 set -u
 cd "$(dirname "$0")/.." || exit 2
@@ -19,7 +19,7 @@ for cite in $(grep -hoE '`[a-z]+/[A-Z][A-Za-z]*\.[^` ]+`' README.md docs/*.md | 
     file=${rest%%.*} name=${rest#*.}
     check "no $name in crates/$crate/*/$file.antt" grep -qE "^ *((abbrev|unfoldable) )?pub ((record|data) )?$name( |\$)" "crates/$crate/specs/$file.antt" "crates/$crate/proofs/$file.antt" 2>/dev/null
 done
-for path in $(grep -hoE '`(\./)?[a-z.]+/[A-Za-z0-9_./-]*`' README.md docs/*.md | tr -d '`' | grep -vE '/[A-Z][A-Za-z]*\.[a-z]+[A-Za-z-]*-|^target/' | sort -u); do
+for path in $(grep -hoE '`(\./)?[a-z.]+/[A-Za-z0-9_./-]*`' README.md docs/*.md | tr -d '`' | grep -vE '/[A-Z][A-Za-z]*\.[a-z]+[A-Za-z-]*-|^target/|^(src|specs|proofs)/|/Q-n' | sort -u); do
     case $path in */[A-Z]*.[a-zA-Z]*) case $path in *.md | *.antt | *.h) ;; *) continue ;; esac ;; esac
     check "no $path in the project" test -e "$path"
 done
