@@ -18,10 +18,10 @@ use Rattle.rule.specs.Table.{queueOf, leaving, staying}
 use Rattle.rule.proofs.Table.{queue-leaving, leaving-snoc, staying-snoc}
 use Rattle.rule.proofs.Sums.{eqb-same, eqb-other}
 use Rattle.rule.proofs.Kernel.{holds-cong}
+use Rattle.rule.proofs.Cover.{covered-lawful}
 use Rattle.finder.specs.Tops.{countsOf, Topped, CountsBelow}
 use Rattle.finder.specs.Resolve.{houseOf, Resolved}
 use Rattle.finder.proofs.Tops.{payer-under, queue-append, queue-own, queue-grows}
-use Rattle.finder.proofs.Cover.{cover-lawful}
 
 module _ (pays tops : List ℕ) (m : ℕ) (h : m < length pays) where
   below-is : ltb (length (queueOf (payerOf (getD pays m 0)) (take m pays))) (countsOf pays tops (payerOf (getD pays m 0))) ≡ ltb m (getD tops (payerOf (getD pays m 0)) 0)
@@ -100,7 +100,7 @@ pub counted-largest : {n used : ℕ} {pays : List ℕ} {bs lines ys : List ℤ} 
 counted-largest {n} {used} {pays} {bs} {lines} {tops} {counts} members r d = record {
   allowed = record {
     within = λ i h. rw (same i h) (r .largest .allowed .within i h);
-    holds = λ i h. holds-cong (cover-lawful n (houseOf used pays bs lines)) i (countsOf pays tops) (λ j. getD counts j 0) h (λ j k. sym (same j k)) (r .largest .allowed .holds i h);
+    holds = λ i h. holds-cong (covered-lawful n (houseOf used pays bs lines)) i (countsOf pays tops) (λ j. getD counts j 0) h (λ j k. sym (same j k)) (r .largest .allowed .holds i h);
   };
   top = λ y a i h. rw (same i h) (r .largest .top y a i h);
 }

@@ -10,21 +10,22 @@ use lib.IntN.{ℤ, pos, _+ℤ_, _-ℤ_}
 use lib.Signed.{ltZ}
 use lib.ListN.{length, getD, take, length-set}
 use lib.Seq.{getD-set-same, getD-set-other}
-use Rattle.rule.specs.Kernel.{Counts, put, Around}
+use Rattle.rule.specs.Kernel.{Counts, put, lower, Around}
 use Rattle.rule.specs.Payment.{payeeOf, amountOf, amountTo}
-use Rattle.rule.specs.House.{House, waits, position, Covered}
+use Rattle.rule.specs.House.{House, waits, position, leeway, Covered}
 use Rattle.rule.specs.Table.{queueOf}
 use Rattle.rule.proofs.Ints.{plus, minus, ints, nonneg-is, nonneg-of}
 use Rattle.rule.proofs.Sums.{sum-strict}
 use Rattle.rule.proofs.Kernel.{take-off}
-use Rattle.rule.proofs.Find.{put-all, lower, around-lower}
+use Rattle.rule.proofs.Cover.{covered-lawful}
+use Rattle.rule.proofs.Find.{put-all, around-lower}
 use Rattle.finder.specs.Limits.{mostAmount}
 use Rattle.finder.specs.Tops.{countsOf, height, Linked}
 use Rattle.finder.specs.Finder.{Ranges, Stood, Ready, Short, Off, TakenOff}
 use Rattle.finder.proofs.Tops.{payee-under, one-less, last-stands}
 use Rattle.finder.proofs.Links.{linked-below}
 use Rattle.finder.proofs.Positions.{moved-at, moved-far}
-use Rattle.finder.proofs.Cover.{cover-lawful, position-off}
+use Rattle.finder.proofs.Cover.{position-off}
 
 -- ---- short or covered
 
@@ -32,19 +33,19 @@ module _ {n used : ℕ} {H : House} {pays : List ℕ} {xs lines : List ℤ} {ts 
   pub short-uncovered : Short xs lines i ≡ true → ¬ Covered n H i (countsOf pays ts)
   short-uncovered t c =
       let z = position n H (countsOf pays ts) i in
-      let l = H .line i in
-      let u : ltZ z (pos 0 -ℤ pos l) ≡ true = rw (st .stand i h, st .line i h) at t in
-      omega (ints, nonneg-is (z +ℤ pos l) (c .cover), plus z (pos l), minus (pos 0) (pos l))
+      let l = leeway H i in
+      let u : ltZ z (pos 0 -ℤ l) ≡ true = rw (st .stand i h, st .line i h) at t in
+      omega (ints, nonneg-is (z +ℤ l) (c .cover), plus z l, minus (pos 0) l)
 
   pub else-covered : Short xs lines i ≡ false → Covered n H i (countsOf pays ts)
   else-covered t =
       let z = position n H (countsOf pays ts) i in
-      let l = H .line i in
-      let u : ltZ z (pos 0 -ℤ pos l) ≡ false = rw (st .stand i h, st .line i h) at t in
-      record { cover = nonneg-of (z +ℤ pos l) (omega (ints, plus z (pos l), minus (pos 0) (pos l))) }
+      let l = leeway H i in
+      let u : ltZ z (pos 0 -ℤ l) ≡ false = rw (st .stand i h, st .line i h) at t in
+      record { cover = nonneg-of (z +ℤ l) (omega (ints, plus z l, minus (pos 0) l)) }
 
   some-in : Short xs lines i ≡ true → 0 < countsOf pays ts i
-  some-in t = omega (arith, take-off (cover-lawful n H) (countsOf pays ts) i (st .allowed) (st .around .above (st .some) (st .allowed)) h (short-uncovered t))
+  some-in t = omega (arith, take-off (covered-lawful n H) (countsOf pays ts) i (st .allowed) (st .around .above (st .some) (st .allowed)) h (short-uncovered t))
 
 -- so a payment of a short member can be taken off
 pub off-ready : {n used : ℕ} {pays befores : List ℕ} {xs lines : List ℤ} {ts : List ℕ} {i : ℕ}
@@ -81,7 +82,7 @@ module _ {used : ℕ} {pays : List ℕ} {xs ys lines : List ℤ} {ts us : List �
   unfolding lower
   around-off {n} {H} st h short =
       let e : countsOf pays ts s - 1 ≡ length (queueOf s (take (t .place) pays)) = omega (arith, one-less (t .last)) in
-      rw (counts-off t (rw (r .topped .each) inside), ← e) (around-lower (cover-lawful n H) s (st .around) h (short-uncovered st s h short))
+      rw (counts-off t (rw (r .topped .each) inside), ← e) (around-lower (covered-lawful n H) s (st .around) h (short-uncovered st s h short))
 
   stand-off : {n : ℕ} {H : House} → Stood n used H pays xs lines ts → s < n → (i : ℕ) → i < n → getD ys i (pos 0) ≡ position n H (countsOf pays us) i
   stand-off {n} {H} st h i k =

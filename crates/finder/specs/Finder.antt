@@ -8,7 +8,7 @@ use lib.Signed.{ltZ}
 use lib.ListN.{length, getD, set, take}
 use Rattle.rule.specs.Kernel.{Counts, Around}
 use Rattle.rule.specs.Payment.{payeeOf, amountOf}
-use Rattle.rule.specs.House.{House, waits, position, Covered, AllowedSet}
+use Rattle.rule.specs.House.{House, waits, position, leeway, Covered, AllowedSet}
 use Rattle.rule.specs.Table.{queueOf}
 use Rattle.finder.specs.Limits.{far, mostAmount, farPosition}
 use Rattle.finder.specs.Tops.{countsOf, height, Topped, Linked, LastAt}
@@ -30,7 +30,7 @@ pub record Stood (n used : ℕ) (H : House) (pays : List ℕ) (positions lines :
   pub some : Counts
   pub allowed : AllowedSet n H some
   pub queues : (i : ℕ) → i < n → H .queue i ≡ queueOf i (take used pays)
-  pub line : (i : ℕ) → i < n → getD lines i (pos 0) ≡ pos (H .line i)
+  pub line : (i : ℕ) → i < n → getD lines i (pos 0) ≡ leeway H i
   pub stand : (i : ℕ) → i < n → getD positions i (pos 0) ≡ position n H (countsOf pays tops) i
   pub around : Around n (Covered n H) (waits H) (countsOf pays tops)
 

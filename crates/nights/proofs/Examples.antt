@@ -7,7 +7,7 @@ use Rattle.rule.specs.Kernel.{put}
 use Rattle.rule.specs.Payment.{payerOf, payeeOf, amountOf, flagsOf}
 use Rattle.rule.specs.Queue.{worth}
 use Rattle.rule.specs.House.{sent, received}
-use Rattle.rule.proofs.Cover.{resolution}
+use Rattle.rule.specs.Resolution.{resolution}
 use Rattle.tables.specs.State.{every}
 use Rattle.booking.specs.Booking.{bookedIn}
 use Rattle.answers.specs.Outcome.{held}

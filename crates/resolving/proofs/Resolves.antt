@@ -9,9 +9,11 @@ use lib.ListN.{length, length-drop, List·getD-eq-default}
 use borrow.Author.Tests.{lt-ltb, le-ltb}
 use Rattle.rule.specs.House.{waits, booked, LargestSet, Same}
 use Rattle.rule.specs.Verdict.{verdict, Says}
+use Rattle.rule.specs.Resolution.{resolution}
 use Rattle.rule.proofs.Lists.{length-listing, getD-listing}
 use Rattle.rule.proofs.Kernel.{holds-cong}
-use Rattle.rule.proofs.Cover.{resolution, resolution-largest, covered-lawful}
+use Rattle.rule.proofs.Cover.{covered-lawful}
+use Rattle.rule.proofs.Resolution.{resolution-largest}
 use Rattle.rule.proofs.Verdict.{verdict-says}
 use Rattle.sets.specs.Sets.{setOf, sizeOf, lowestOf, lowestIn}
 use Rattle.sets.proofs.Sets.{set-size, set-lowest}
@@ -38,7 +40,7 @@ module _ {T : Tables} (h : Holds T) where
   largest-is = let l = resolution-largest (holds-sound h) in record {
     allowed = record {
       within = λ i q. omega (arith, same i q, l .allowed .within i q);
-      holds = λ i q. holds-cong (covered-lawful (holds-sound h)) i (resolution (membersIn T) (houseIn T)) (listed (largestIn T)) q same (l .allowed .holds i q);
+      holds = λ i q. holds-cong (covered-lawful (membersIn T) (houseIn T)) i (resolution (membersIn T) (houseIn T)) (listed (largestIn T)) q same (l .allowed .holds i q);
     };
     top = λ y a i q. omega (arith, same i q, l .top y a i q);
   }

@@ -14,9 +14,10 @@ use Rattle.rule.specs.Lists.{fill}
 use Rattle.rule.specs.Kernel.{Counts, sum}
 use Rattle.rule.specs.House.{waits, sent, Same}
 use Rattle.rule.specs.Verdict.{verdictOf}
+use Rattle.rule.specs.Resolution.{resolution}
 use Rattle.rule.proofs.Lists.{fill-length, fill-at, length-listing, getD-listing}
 use Rattle.rule.proofs.Kernel.{largest-unique}
-use Rattle.rule.proofs.Cover.{resolution, resolution-largest}
+use Rattle.rule.proofs.Resolution.{resolution-largest}
 use Rattle.rule.proofs.Same.{largest-same}
 use Rattle.sets.specs.Sets.{setOf}
 use Rattle.sets.proofs.Highest.{set-cong}

@@ -9,7 +9,7 @@ use Rattle.rule.specs.Lists.{listing}
 use Rattle.rule.specs.Kernel.{Counts, sum}
 use Rattle.rule.specs.House.{House, waits, sent, LargestSet}
 use Rattle.rule.specs.Verdict.{verdict}
-use Rattle.rule.proofs.Cover.{resolution}
+use Rattle.rule.specs.Resolution.{resolution}
 use Rattle.sets.specs.Sets.{setOf}
 use Rattle.tables.specs.Layout.{Tables, membersIn, houseIn}
 use Rattle.booking.specs.Booking.{listed, bookedIn}

@@ -7,11 +7,11 @@ use lib.IntN.{ℤ, pos, _+ℤ_}
 use lib.Signed.{_≤ℤ_}
 use Rattle.rule.specs.Kernel.{Counts, sum}
 use Rattle.rule.specs.Payment.{payerOf}
-use Rattle.rule.specs.House.{House, booked, LargestSet, Sound, Same, Proper, money}
+use Rattle.rule.specs.House.{House, booked, leeway, LargestSet, Sound, Same, Proper, money}
 use Rattle.rule.specs.Day.{Call, deposit, submit, settle, onlyFor, call, Accepts, Lived, done, next, deposits, payments, Day, atOnce}
 use Rattle.rule.specs.Bounds.{Alike}
 use Rattle.rule.specs.Chain.{Permitted, Step, rise, append, book, step, Leads, then, rises, appended, Resolved, arrived, gathered, just}
-use Rattle.rule.specs.Cover.{cover, state}
+use Rattle.rule.specs.Cover.{terms, state}
 use Rattle.rule.specs.Ints.{up, down}
 use Rattle.rule.proofs.Ints.{plus, nonneg-is, nonneg-of, plus-assoc, plus-zero}
 use Rattle.rule.proofs.Sums.{sum-add, sum-cong, sum-zero}
@@ -49,26 +49,26 @@ appended-are (settle z ∷ cs) i = appended-are cs i
 pub sound-same : {n : ℕ} {X Y : House} → Sound n X → Same n X Y → Sound n Y
 sound-same ok s = record { covers = λ i h. rw (s .balances i h, s .lines i h) (ok .covers i h) }
 
-pub same→alike : {n : ℕ} {X Y : House} → Same n X Y → Alike n cover (state X) (state Y)
+pub same→alike : {n : ℕ} {X Y : House} → Same n X Y → Alike n terms (state X) (state Y)
 same→alike s = record { rooms = λ i h. rw (s .balances i h, s .lines i h); queues = s .queues }
 
 -- a deposit raises the room by as much
-paid-room : (b : ℤ) (l d : ℕ) → pos 0 ≤ℤ (b +ℤ pos l) → (up (b +ℤ pos d +ℤ pos l) ≡ up (b +ℤ pos l) + d) × (down (b +ℤ pos d +ℤ pos l) ≡ 0)
+paid-room : (b l : ℤ) (d : ℕ) → pos 0 ≤ℤ (b +ℤ l) → (up (b +ℤ pos d +ℤ l) ≡ up (b +ℤ l) + d) × (down (b +ℤ pos d +ℤ l) ≡ 0)
 paid-room b l d ok =
-    let more : pos 0 ≤ℤ (b +ℤ pos d +ℤ pos l) = nonneg-of (b +ℤ pos d +ℤ pos l) (omega (arith, nonneg-is (b +ℤ pos l) ok, plus b (pos l), plus b (pos d), plus (b +ℤ pos d) (pos l))) in
-    omega (arith, nonneg-is (b +ℤ pos l) ok, nonneg-is (b +ℤ pos d +ℤ pos l) more, plus b (pos l), plus b (pos d), plus (b +ℤ pos d) (pos l))
+    let more : pos 0 ≤ℤ (b +ℤ pos d +ℤ l) = nonneg-of (b +ℤ pos d +ℤ l) (omega (arith, nonneg-is (b +ℤ l) ok, plus b l, plus b (pos d), plus (b +ℤ pos d) l)) in
+    omega (arith, nonneg-is (b +ℤ l) ok, nonneg-is (b +ℤ pos d +ℤ l) more, plus b l, plus b (pos d), plus (b +ℤ pos d) l)
 
-credited-covers : (b : ℤ) (l d : ℕ) → pos 0 ≤ℤ (b +ℤ pos l) → pos 0 ≤ℤ (b +ℤ pos d +ℤ pos l)
-credited-covers b l d ok = let (r, e) = paid-room b l d ok in nonneg-of (b +ℤ pos d +ℤ pos l) (omega arith)
+credited-covers : (b l : ℤ) (d : ℕ) → pos 0 ≤ℤ (b +ℤ l) → pos 0 ≤ℤ (b +ℤ pos d +ℤ l)
+credited-covers b l d ok = let (r, e) = paid-room b l d ok in nonneg-of (b +ℤ pos d +ℤ l) (omega arith)
 
 -- a call keeps a house sound, and is its step
 call-sound : {n : ℕ} {X : House} (c : Call) → Sound n X → Accepts n X c → Sound n (call n X c)
-call-sound {X} (deposit j a) ok p = record { covers = λ i h. credited-covers (X .balance i) (X .line i) (onlyFor j a i) (ok .covers i h) }
+call-sound {X} (deposit j a) ok p = record { covers = λ i h. credited-covers (X .balance i) (leeway X i) (onlyFor j a i) (ok .covers i h) }
 call-sound (submit w) ok p = record { covers = ok .covers }
 call-sound (settle z) ok p = booked-sound p
 
-call-step : {n : ℕ} {X : House} (c : Call) → Sound n X → Accepts n X c → Alike n cover (step n cover (state X) (as-step c)) (state (call n X c))
-call-step {X} (deposit j a) ok p = record { rooms = λ i h. paid-room (X .balance i) (X .line i) (onlyFor j a i) (ok .covers i h) .0; queues = λ i h. refl }
+call-step : {n : ℕ} {X : House} (c : Call) → Sound n X → Accepts n X c → Alike n terms (step n terms (state X) (as-step c)) (state (call n X c))
+call-step {X} (deposit j a) ok p = record { rooms = λ i h. paid-room (X .balance i) (leeway X i) (onlyFor j a i) (ok .covers i h) .0; queues = λ i h. refl }
 call-step (submit w) ok p = record { rooms = λ i h. refl; queues = λ i h. refl }
 call-step (settle z) ok p = booked-state ok p
 
@@ -77,7 +77,7 @@ call-lines n X (deposit j a) i = refl
 call-lines n X (submit w) i = refl
 call-lines n X (settle z) i = refl
 
-call-permitted : {n : ℕ} {X : House} (c : Call) → Sound n X → Accepts n X c → Permitted n cover (state X) (as-step c)
+call-permitted : {n : ℕ} {X : House} (c : Call) → Sound n X → Accepts n X c → Permitted n terms (state X) (as-step c)
 call-permitted (deposit j a) ok p = tt
 call-permitted (submit w) ok p = tt
 call-permitted (settle z) ok p = allowed→in ok p
@@ -87,7 +87,7 @@ call-permitted (settle z) ok p = allowed→in ok p
 pub record Carried (n : ℕ) (X : House) (cs : List Call) (Z : House) : Type 0 where
   pub sound : Sound n Z
   pub lines : (i : ℕ) → i < n → Z .line i ≡ X .line i
-  pub leads : Leads n cover (state X) (as-steps cs) (state Z)
+  pub leads : Leads n terms (state X) (as-steps cs) (state Z)
 
 pub carried : {n : ℕ} {X Z : House} {cs : List Call} → Sound n X → Lived n X cs Z → Carried n X cs Z
 carried ok (done s) = record { sound = sound-same ok s; lines = s .lines; leads = arrived (same→alike s) }
@@ -109,7 +109,7 @@ module _ {n : ℕ} {O E : House} {cs : List Call} (day : Day n O cs E) where
   pub day-lines : (i : ℕ) → i < n → E .line i ≡ O .line i
   day-lines i h = day .ends .lines i h ∙ kept .lines i h
 
-  pub day-resolved : Resolved n cover (state O) (as-steps cs) (state E)
+  pub day-resolved : Resolved n terms (state O) (as-steps cs) (state E)
   day-resolved = record {
     eve = state (day .eve);
     leads = kept .leads;
@@ -121,15 +121,15 @@ module _ {n : ℕ} {O E : House} {cs : List Call} (day : Day n O cs E) where
 -- ---- the end of a day is that of its deposits and payments taken at once
 
 module _ {n : ℕ} {O : House} (ok : Sound n O) (cs : List Call) where
-  gathered-state : Alike n cover (gathered (state O) (as-steps cs)) (state (atOnce O cs))
+  gathered-state : Alike n terms (gathered (state O) (as-steps cs)) (state (atOnce O cs))
   gathered-state = record {
-    rooms = λ i h. paid-room (O .balance i) (O .line i) (deposits cs i) (ok .covers i h) .0 ∙ rw (← rises-are cs i);
+    rooms = λ i h. paid-room (O .balance i) (leeway O i) (deposits cs i) (ok .covers i h) .0 ∙ rw (← rises-are cs i);
     queues = λ i h. rw (appended-are cs i);
   }
 
   pub at-once-sound : Sound n (atOnce O cs)
   at-once-sound = record {
-    covers = λ i h. credited-covers (O .balance i) (O .line i) (deposits cs i) (ok .covers i h);
+    covers = λ i h. credited-covers (O .balance i) (leeway O i) (deposits cs i) (ok .covers i h);
   }
 
 -- wherever its releases, groups and resolutions fell, a day ends as if the largest allowed set of all deposits and payments were booked
@@ -143,7 +143,7 @@ day-end {n} {O} {E} {cs} {z} day l =
     ok : Sound n (atOnce O cs)
     ok = at-once-sound (day .sound) cs
 
-    chain : Resolved n cover (state O) (as-steps cs) (state E)
+    chain : Resolved n terms (state O) (as-steps cs) (state E)
     chain = day-resolved day
 
 -- two days from like states, with the same deposits for each member and the same payments of each payer in order, end alike

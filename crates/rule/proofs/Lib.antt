@@ -10,6 +10,7 @@ pub mod Steps
 pub mod Table
 pub mod Chain
 pub mod Cover
+pub mod Resolution
 pub mod Release
 pub mod Verdict
 pub mod Queues

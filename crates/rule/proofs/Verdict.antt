@@ -88,5 +88,5 @@ verdict-says {n} {H} {z} ok l = record {
     whole : sum n z ≡ sum n (waits H) → AllowedSet n H (waits H)
     whole e = record {
       within = λ i h. omega arith;
-      holds = λ i h. holds-cong (covered-lawful ok) i z (waits H) h (sum-same n z (waits H) (l .allowed .within) e) (l .allowed .holds i h);
+      holds = λ i h. holds-cong (covered-lawful n H) i z (waits H) h (sum-same n z (waits H) (l .allowed .within) e) (l .allowed .holds i h);
     }

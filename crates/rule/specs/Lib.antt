@@ -5,6 +5,7 @@ pub mod Queue
 pub mod House
 pub mod Table
 pub mod Verdict
+pub mod Resolution
 pub mod Day
 pub mod Situations
 pub mod Paper
