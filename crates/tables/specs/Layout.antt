@@ -1,6 +1,6 @@
 -- What stands where in the three lent lists: a (accounts), c (counters) and p (places). See docs/TABLES.md. Members are counted from 0.
 use mathlib.Core.List.{List}
-use Prim.Native.Nat.{ℕ, _+_, _*_}
+use Prim.Native.Nat.{ℕ, _+_, _*_, _-_}
 use lib.IntN.{ℤ, pos}
 use lib.ListN.{getD, take}
 use Rattle.rule.specs.Ints.{up}
@@ -44,6 +44,10 @@ lastOf c i = getD c (64 + i) 0
 -- how many payments of member i were settled
 abbrev pub settledOf : List ℕ → ℕ → ℕ
 settledOf c i = getD c (128 + i) 0
+
+-- how many payments of member i wait
+abbrev pub waitsOf : List ℕ → ℕ → ℕ
+waitsOf c i = lastOf c i - settledOf c i
 
 abbrev pub balanceOf : List ℤ → ℕ → ℤ
 balanceOf a i = getD a i (pos 0)

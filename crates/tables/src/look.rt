@@ -9,7 +9,7 @@ ghost use Prim.Native.Nat.{ℕ, _+_, _<_, _≤_};
 ghost use lib.ListN.{length, getD, take};
 ghost use Rattle.rule.specs.House.{money};
 ghost use Rattle.rule.specs.Table.{queueOf};
-ghost use Rattle.tables.specs.Layout.{tables, waitingOf, balanceOf};
+ghost use Rattle.tables.specs.Layout.{tables, waitingOf, lastOf, settledOf, waitsOf, balanceOf};
 ghost use Rattle.tables.specs.State.{every, wordOk, isZero, holderOk, accountOk, accountAt, spareAt, accountsOk, zeroAt, countersOk, placeOk, placesOk, queueOk, queuesOk, isState};
 ghost use Rattle.tables.specs.Needs.{Bounded};
 
@@ -224,6 +224,14 @@ fn word_ok(n: usize, w: u64) -> bool
 }
 
 // ---- queues
+
+// How many payments a member has waiting.
+pub fn waiting_of(counters: &[u32], seat: usize) -> u32
+    requires { ⌜ (512 ≤ length (now counters)) × (seat < 64) × (settledOf (now counters) seat ≤ lastOf (now counters) seat) ⌝ }
+    ensures { λ r. ⌜ r ≡ waitsOf (now (counters .entry)) seat ⌝ }
+{
+    counters[House::LASTS_AT + seat] - counters[House::SETTLED_AT + seat]
+}
 
 // How many payments each member has waiting among the first n places.
 pub fn count_waiting(pays: &[u64], n: usize) -> [u16; 64]
