@@ -7,7 +7,7 @@ use native.Mathlib.Omega.{arith}
 use lib.Dec.{leb}
 use borrow.Author.Tests.{leb-true}
 use Rattle.rule.specs.Lists.{Each}
-use Rattle.tables.specs.Sizes.{limit}
+use Rattle.tables.specs.Sizes.{mostAmount}
 use Rattle.tables.specs.Layout.{countOf}
 use Rattle.tables.proofs.Tests.{and-both}
 use Rattle.answers.specs.Codes.{Test, test, first, isMember, isAmount}
@@ -57,5 +57,5 @@ pub member-in : (c : List ℕ) (m : ℕ) → isMember c m ≡ true → (1 ≤ m)
 member-in c m e = let b = and-both (leb 1 m) (leb m (countOf c)) e in (leb-true 1 m (b .0), leb-true m (countOf c) (b .1))
 
 -- and on an amount
-pub amount-in : (x : ℕ) → isAmount x ≡ true → (1 ≤ x) × (x ≤ limit)
-amount-in x e = let b = and-both (leb 1 x) (leb x limit) e in (leb-true 1 x (b .0), leb-true x limit (b .1))
+pub amount-in : (x : ℕ) → isAmount x ≡ true → (1 ≤ x) × (x ≤ mostAmount)
+amount-in x e = let b = and-both (leb 1 x) (leb x mostAmount) e in (leb-true 1 x (b .0), leb-true x mostAmount (b .1))

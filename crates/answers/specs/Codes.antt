@@ -3,7 +3,7 @@ use mathlib.Core.Bool.{Bool, cond, _&&_}
 use mathlib.Core.List.{List, [], _∷_}
 use Prim.Native.Nat.{ℕ}
 use lib.Dec.{leb}
-use Rattle.tables.specs.Sizes.{limit}
+use Rattle.tables.specs.Sizes.{mostAmount}
 use Rattle.tables.specs.Layout.{countOf}
 use Rattle.answers.specs.declared.Refusal.{Refusal}
 use Rattle.answers.specs.declared.Refusal.the-variants.{State, Member, Same, Amount, Number, Full, Money, Nothing, Cover, Counts, Opening, Line, Room}
@@ -47,4 +47,4 @@ isMember c m = leb 1 m && leb m (countOf c)
 
 -- x is an amount: 1 to 10^12
 abbrev pub isAmount : ℕ → Bool
-isAmount x = leb 1 x && leb x limit
+isAmount x = leb 1 x && leb x mostAmount

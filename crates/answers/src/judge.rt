@@ -4,17 +4,18 @@ use tables::steps::wide;
 ghost use mathlib.Core.Path.{_≡_};
 ghost use Prim.Native.Nat.{_≤_};
 ghost use lib.ListN.{length};
+ghost use Rattle.tables.specs.Sizes.{table};
 ghost use Rattle.answers.specs.Codes.{isMember, isAmount};
 
 // The number is a member's: 1 to the count.
 pub fn is_member(counters: &[u32], member: u64) -> bool
-    requires { ⌜ 512 ≤ length (now counters) ⌝ }
+    requires { ⌜ table ≤ length (now counters) ⌝ }
     ensures { λ r. ⌜ r ≡ isMember (now (counters .entry)) member ⌝ }
 {
     if member < 1 {
         return false;
     }
-    member <= wide(counters[0]) as u64
+    member <= wide(counters[House::MEMBERS_AT]) as u64
 }
 
 // The amount is 1 to 10^12.
@@ -24,5 +25,5 @@ pub fn is_amount(amount: u64) -> bool
     if amount < 1 {
         return false;
     }
-    amount <= House::LIMIT
+    amount <= House::MOST_AMOUNT
 }

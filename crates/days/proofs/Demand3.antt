@@ -8,7 +8,8 @@ use lib.ListN.{length}
 use Rattle.rule.specs.Kernel.{Counts}
 use Rattle.rule.specs.House.{LargestSet, Same, booked}
 use Rattle.rule.specs.Day.{Day, deposits, payments, atOnce}
-use Rattle.rule.proofs.Demands.{no-bank-favoured, as-at-once}
+use Rattle.rule.proofs.Demands.{no-bank-favoured, as-at-once, largest-exists}
+use Rattle.rule.proofs.Day.{at-once-sound}
 use Rattle.tables.specs.Layout.{Tables, membersIn, houseIn, lastOf, settledOf}
 use Rattle.tables.specs.Holds.{Holds}
 use Rattle.tables.proofs.Houses.{holds-sound}
@@ -34,7 +35,7 @@ done-apart {x} r e = let f : Done x ≡ Refused r = ap (λ (p : Resolved × List
 
 module _ {T W : Tables} {qs : List Request} (h : Holds T) (d : Ended T qs W) where
   eve : Carried T (made qs T) (afterAll qs T)
-  eve = chain-carries h qs
+  eve = chain-carries h qs (d .inside)
 
   -- the last booked the largest set of the eve,
   ended-is : W ≡ bookedIn (afterAll qs T) (listed (largestIn (afterAll qs T)))
@@ -71,10 +72,12 @@ module _ {T W : Tables} {qs : List Request} (h : Holds T) (d : Ended T qs W) whe
         (rw ended-is (booked-house (eve .stands) (listed (largestIn (afterAll qs T))) books));
   }
 
-  -- it ends as rule 2 says for the first balances, all deposits and all payments taken at once
-  pub ends-as-at-once : {z : Counts} → LargestSet (membersIn T) (atOnce (houseIn T) (made qs T)) z
-      → Same (membersIn T) (booked (membersIn T) (atOnce (houseIn T) (made qs T)) z) (houseIn W)
-  ends-as-at-once = as-at-once ended-day
+  -- it ends as rule 2 says for the first balances, all deposits and all payments taken at once: there is a largest set, and what it
+  -- leaves is in the tables
+  pub ends-as-at-once : (z : Counts)
+      × (LargestSet (membersIn T) (atOnce (houseIn T) (made qs T)) z)
+      × (Same (membersIn T) (booked (membersIn T) (atOnce (houseIn T) (made qs T)) z) (houseIn W))
+  ends-as-at-once = let z = largest-exists (at-once-sound (holds-sound h) (made qs T)) in (z .0, z .1, as-at-once ended-day (z .1))
 
 -- ---- two of them
 

@@ -1,5 +1,6 @@
 -- Each request is a list of the rule's calls, empty where it was refused: from what the laws of the calls say of tables that hold a state.
 use mathlib.Core.Path.{_≡_, refl, sym, ap, _∙_}
+use mathlib.Core.Logic.{_≢_}
 use mathlib.Core.Bool.{Bool, true, false, cond}
 use mathlib.Core.List.{List, [], _∷_, _++_}
 use Prim.Native.Nat.{ℕ, _+_, _-_, _<_}
@@ -18,13 +19,14 @@ use Rattle.tables.specs.Layout.{Tables, membersIn, houseIn, lastOf, moneyOf}
 use Rattle.tables.specs.Holds.{Holds}
 use Rattle.booking.specs.Booking.{listed, bookedIn}
 use Rattle.booking.proofs.Kept.{Books, booked-count, booked-last, booked-house, booked-holds, booked-money}
+use Rattle.opening.specs.Open.{openAct}
 use Rattle.entry.specs.Deposit.{depositedIn, depositAct}
 use Rattle.entry.specs.Submit.{submittedIn, submitAct}
 use Rattle.settling.specs.Release.{releaseAct, onlyHead}
 use Rattle.settling.specs.Group.{bookAct, groupAct}
 use Rattle.resolving.specs.Resolve.{resolveAct, largestIn}
 use Rattle.answers.specs.Codes.{first}
-use Rattle.answers.specs.Outcome.{Act, decided, judgement, called}
+use Rattle.answers.specs.Outcome.{Act, decided, held, judgement, called}
 use Rattle.answers.specs.declared.Judged.{Judged}
 use Rattle.answers.specs.declared.Judged.the-variants.{Fine, Bad}
 use Rattle.answers.proofs.Outcomes.{judgement-fine}
@@ -33,7 +35,7 @@ use Rattle.entry.proofs.Deposits.{deposits-hold, deposits-counters, deposits-ca
 use Rattle.entry.proofs.Submits.{submits-hold, submits-accounts, submits-count, submits-accepts, submits-call, submits-last}
 use Rattle.settling.proofs.Settles.{release-books, group-books}
 use Rattle.resolving.proofs.Resolves.{largest-books}
-use Rattle.days.specs.Days.{Request, deposits, submits, releases, groups, resolves, after, accepted, did}
+use Rattle.days.specs.Days.{Request, opens, deposits, submits, releases, groups, resolves, after, accepted, did, GoesOn}
 
 -- what calls that were accepted as cs carry from T to W: a state, the count, the house, the last numbers and the sum of balances
 pub record Carried (T : Tables) (cs : List Call) (W : Tables) : Type 0 where
@@ -101,11 +103,21 @@ act-carries k {T} {cs} h f = go (judgement k T) refl
     go Fine e = f (judgement-fine k T e .1)
     go (Bad r) e = refused-carries h
 
--- a request that was made on a state is the calls of the rule that it did
-pub link-carries : {T : Tables} → Holds T → (q : Request) → Carried T (did q T) (after q T)
+-- a refused open carries nothing
+open-carries : {A : Type 0} (k : Act A) {T : Tables} → Holds T → first (k .tests T) ≢ Fine → Carried T [] (held k T .after)
+unfolding held
+open-carries k {T} h n = go (first (k .tests T)) n
+  where
+    go : (j : Judged) → j ≢ Fine → Carried T [] (decided k T j .after)
+    go Fine m = absurd (m refl)
+    go (Bad r) m = refused-carries h
+
+-- a request that was made on a state, and did not open again, is the calls of the rule that it did
+pub link-carries : {T : Tables} → Holds T → (q : Request) → GoesOn q T → Carried T (did q T) (after q T)
 unfolding depositAct submitAct releaseAct groupAct bookAct resolveAct
-link-carries h (deposits m x) = act-carries (depositAct m x) h (λ e. deposit-carries h (deposit-fine e))
-link-carries h (submits m n q x) = act-carries (submitAct m n q x) h (λ e. submit-carries h (submit-fine e))
-link-carries h (releases m) = act-carries (releaseAct m) h (λ e. booking-carries h (onlyHead m) (release-books h m e))
-link-carries h (groups k) = act-carries (groupAct k) h (λ e. booking-carries h (listed k) (group-books h k e))
-link-carries {T} h (resolves k) = act-carries (resolveAct k) h (λ e. booking-carries h (listed (largestIn T)) (largest-books h))
+link-carries h (opens n b l) g = open-carries (openAct n b l) h g
+link-carries h (deposits m x) g = act-carries (depositAct m x) h (λ e. deposit-carries h (deposit-fine e))
+link-carries h (submits m n q x) g = act-carries (submitAct m n q x) h (λ e. submit-carries h (submit-fine e))
+link-carries h (releases m) g = act-carries (releaseAct m) h (λ e. booking-carries h (onlyHead m) (release-books h m e))
+link-carries h (groups k) g = act-carries (groupAct k) h (λ e. booking-carries h (listed k) (group-books h k e))
+link-carries {T} h (resolves k) g = act-carries (resolveAct k) h (λ e. booking-carries h (listed (largestIn T)) (largest-books h))

@@ -9,8 +9,9 @@ use Rattle.rule.specs.Kernel.{Counts}
 use Rattle.rule.specs.House.{LargestSet, Same, booked, money}
 use Rattle.rule.specs.Day.{Day, deposits, payments, atOnce}
 use Rattle.rule.proofs.Same.{same-sym, same-trans}
-use Rattle.rule.proofs.Day.{sound-same}
-use Rattle.rule.proofs.Demands.{as-at-once}
+use Rattle.rule.proofs.Day.{sound-same, at-once-sound}
+use Rattle.rule.proofs.Demands.{as-at-once, largest-exists}
+use Rattle.tables.specs.Sizes.{members}
 use Rattle.tables.specs.Layout.{Tables, membersIn, houseIn, lastOf, moneyOf}
 use Rattle.tables.specs.Holds.{Holds}
 use Rattle.answers.specs.Codes.{first}
@@ -57,7 +58,7 @@ module _ {n : ℕ} {b l : List ℤ} {T : Tables} (o : Begun n b l T) where
   })
 
   -- no number given,
-  pub begun-last : (i : ℕ) → i < 64 → lastOf (T .counters) i ≡ 0
+  pub begun-last : (i : ℕ) → i < members → lastOf (T .counters) i ≡ 0
   begun-last i q = rw begun-is (opens-last fine i q)
 
   -- and the sum of these balances
@@ -70,10 +71,17 @@ module _ {n : ℕ} {b l : List ℤ} {T : Tables} (o : Begun n b l T) where
       let y : Day n (houseIn T) (made qs T) (houseIn W) = subst (λ k. Day k (houseIn T) (made qs T) (houseIn W)) begun-members (ended-day begun-stands d) in
       record { sound = sound-same (y .sound) (same-sym begun-house); eve = y .eve; lived = lived-from begun-house (y .lived); counts = y .counts; last = y .last; ends = y .ends }
 
-  -- and ends as rule 2 says for the opening balances, all deposits and all payments taken at once
-  pub day-ends-as-at-once : {W : Tables} {qs : List Request} (d : Ended T qs W) {z : Counts} → LargestSet n (atOnce (openingOf b l) (made qs T)) z
+  -- and ends as rule 2 says for the opening balances, all deposits and all payments taken at once, whichever largest set is booked,
+  pub day-ends-as-largest : {W : Tables} {qs : List Request} (d : Ended T qs W) {z : Counts} → LargestSet n (atOnce (openingOf b l) (made qs T)) z
       → Same n (booked n (atOnce (openingOf b l) (made qs T)) z) (houseIn W)
-  day-ends-as-at-once d = as-at-once (begun-day d)
+  day-ends-as-largest d = as-at-once (begun-day d)
+
+  -- and there is one
+  pub day-ends-as-at-once : {W : Tables} {qs : List Request} (d : Ended T qs W)
+      → (z : Counts) × (LargestSet n (atOnce (openingOf b l) (made qs T)) z) × (Same n (booked n (atOnce (openingOf b l) (made qs T)) z) (houseIn W))
+  day-ends-as-at-once {qs = qs} d =
+      let z = largest-exists (at-once-sound (begun-day d .sound) (made qs T)) in
+      (z .0, z .1, day-ends-as-largest d (z .1))
 
 -- ---- two of them
 
@@ -82,7 +90,7 @@ pub begun-equal : {n : ℕ} {b l : List ℤ} {T U : Tables} → Begun n b l T �
 begun-equal {T} {U} o r = record {
   members = begun-members r ∙ sym (begun-members o);
   same = subst (λ k. Same k (houseIn T) (houseIn U)) (sym (begun-members o)) (same-trans (same-sym (begun-house o)) (begun-house r));
-  lasts = λ i q. let s : i < 64 = omega (arith, begun-stands o .counters .few) in begun-last r i s ∙ sym (begun-last o i s);
+  lasts = λ i q. let s : i < members = omega (arith, begun-stands o .counters .few) in begun-last r i s ∙ sym (begun-last o i s);
 }
 
 module _ {n : ℕ} {b l : List ℤ} {T U W X : Tables} {qs rs : List Request} (o : Begun n b l T) (r : Begun n b l U) (d : Ended T qs W) (e : Ended U rs X)

@@ -1,5 +1,6 @@
 -- Days over the real tables: the requests that were made, one after the other, and what they did (demand 3).
 use mathlib.Core.Path.{_≡_}
+use mathlib.Core.Logic.{_≢_}
 use mathlib.Core.List.{List, [], _∷_, _++_}
 use Prim.Native.Nat.{ℕ, suc, _-_, _<_}
 use lib.IntN.{ℤ}
@@ -16,6 +17,7 @@ use Rattle.entry.specs.Submit.{submitAct}
 use Rattle.settling.specs.Release.{releaseAct, onlyHead}
 use Rattle.settling.specs.Group.{groupAct}
 use Rattle.resolving.specs.Resolve.{resolveAct, largestIn}
+use Rattle.answers.specs.Codes.{first}
 use Rattle.answers.specs.Outcome.{Act, outcome, held, judgement, called}
 use Rattle.answers.specs.declared.Judged.{Judged}
 use Rattle.answers.specs.declared.Judged.the-variants.{Fine, Bad}
@@ -25,8 +27,9 @@ use Rattle.answers.specs.declared.Resolution.{Resolution}
 
 -- ---- a day
 
--- a request, in the words of the calls. An open is none: inside a day it is refused, and changes nothing.
+-- a request, in the words of the calls
 pub data Request : Type 0 where
+  opens : (n : ℕ) (b l : List ℤ) → Request
   deposits : (m x : ℕ) → Request
   submits : (m n q x : ℕ) → Request
   releases : (m : ℕ) → Request
@@ -35,6 +38,7 @@ pub data Request : Type 0 where
 
 -- the tables after it, accepted or refused
 abbrev pub after : Request → Tables → Tables
+after (opens n b l) T = held (openAct n b l) T .after
 after (deposits m x) T = called (depositAct m x) T .after
 after (submits m n q x) T = called (submitAct m n q x) T .after
 after (releases m) T = called (releaseAct m) T .after
@@ -46,13 +50,23 @@ abbrev pub accepted : Judged → List Call → List Call
 accepted Fine cs = cs
 accepted (Bad r) cs = []
 
--- what it did, in the rule's words
+-- what it did inside a day, in the rule's words
 abbrev pub did : Request → Tables → List Call
+did (opens n b l) T = []
 did (deposits m x) T = accepted (judgement (depositAct m x) T) (deposit (m - 1) x ∷ [])
 did (submits m n q x) T = accepted (judgement (submitAct m n q x) T) (submit (word (m - 1) (q - 1) x) ∷ [])
 did (releases m) T = accepted (judgement (releaseAct m) T) (settle (onlyHead m) ∷ [])
 did (groups k) T = accepted (judgement (groupAct k) T) (settle (listed k) ∷ [])
 did (resolves k) T = accepted (judgement (resolveAct k) T) (settle (listed (largestIn T)) ∷ [])
+
+-- it does not open again: an open is refused
+abbrev pub GoesOn : Request → Tables → Type 0
+GoesOn (opens n b l) T = first (openAct n b l .tests T) ≢ Fine
+GoesOn (deposits m x) T = Unit {0}
+GoesOn (submits m n q x) T = Unit {0}
+GoesOn (releases m) T = Unit {0}
+GoesOn (groups k) T = Unit {0}
+GoesOn (resolves k) T = Unit {0}
 
 -- requests one after the other, each on the tables as the one before left them
 abbrev pub afterAll : List Request → Tables → Tables
@@ -63,8 +77,14 @@ abbrev pub made : List Request → Tables → List Call
 made [] T = []
 made (q ∷ qs) T = did q T ++ made qs (after q T)
 
--- the requests, and then a resolution with the lent list `given`, which was accepted: it told `told`, and left the tables W
+-- inside a day none of them opens again
+abbrev pub Inside : List Request → Tables → Type 0
+Inside [] T = Unit {0}
+Inside (q ∷ qs) T = GoesOn q T × Inside qs (after q T)
+
+-- the requests, inside a day, and then a resolution with the lent list `given`, which was accepted: it told `told`, and left the tables W
 pub record Ended (T : Tables) (qs : List Request) (W : Tables) : Type 0 where
+  pub inside : Inside qs T
   pub given : List ℕ
   pub told : List ℕ
   pub resolution : Resolution

@@ -13,7 +13,7 @@ use Rattle.rule.specs.Ints.{up}
 use Rattle.rule.proofs.Ints.{plus, plus-zero, le-of, ≤ℤ-is}
 use Rattle.rule.proofs.Sums.{sum-only, eqb-same, eqb-other}
 use Rattle.rule.proofs.Money.{money-credited, money-same}
-use Rattle.tables.specs.Layout.{Tables, membersIn, houseIn, balanceOf, moneyOf}
+use Rattle.tables.specs.Layout.{Tables, membersIn, houseIn, balanceOf, moneyOf, linesAt, spareAccountsAt}
 use Rattle.tables.specs.Sizes.{members}
 use Rattle.tables.specs.Holds.{Holder, Holds}
 use Rattle.entry.specs.Deposit.{depositedIn}
@@ -34,7 +34,7 @@ module _ {T : Tables} {m x : ℕ} (h : Holds T) (d : Deposits T m x) where
   unfolding depositedIn
   other k ne = getD-set-other (T .accounts) (m - 1) k (balanceOf (T .accounts) (m - 1) +ℤ pos x) (pos 0) ne
 
-  later : (k : ℕ) → 64 ≤ k → getD (depositedIn T m x .accounts) k (pos 0) ≡ getD (T .accounts) k (pos 0)
+  later : (k : ℕ) → linesAt ≤ k → getD (depositedIn T m x .accounts) k (pos 0) ≡ getD (T .accounts) k (pos 0)
   later k l = other k (λ e. omega (arith, seat, h .counters .few))
 
   -- the member's balance is x more, and each other stays,
@@ -59,11 +59,11 @@ module _ {T : Tables} {m x : ℕ} (h : Holds T) (d : Deposits T m x) where
     counters = h .counters;
     accounts = record {
       long = simp length-set (h .accounts .long);
-      holders = λ i l. rw (deposits-balance i, later (64 + i) (omega arith)) (holder-more (onlyFor (m - 1) x i) (h .accounts .holders i l));
+      holders = λ i l. rw (deposits-balance i, later (linesAt + i) (omega arith)) (holder-more (onlyFor (m - 1) x i) (h .accounts .holders i l));
       sum = rw deposits-money (d .sum);
       no-balance = λ i l q. other i (λ e. omega (arith, seat)) ∙ h .accounts .no-balance i l q;
-      no-line = λ i l q. later (64 + i) (omega arith) ∙ h .accounts .no-line i l q;
-      spare = λ k q. later (128 + k) (omega arith) ∙ h .accounts .spare k q;
+      no-line = λ i l q. later (linesAt + i) (omega arith) ∙ h .accounts .no-line i l q;
+      spare = λ k q. later (spareAccountsAt + k) (omega arith) ∙ h .accounts .spare k q;
     };
     places = h .places;
     numbers = h .numbers;
@@ -77,4 +77,4 @@ module _ {T : Tables} {m x : ℕ} (h : Holds T) (d : Deposits T m x) where
   -- and the house is the one after the rule's deposit
   pub deposits-call : Same (membersIn T) (call (membersIn T) (houseIn T) (deposit (m - 1) x)) (houseIn (depositedIn T m x))
   unfolding depositedIn
-  deposits-call = record { lines = λ i l. ap up (later (64 + i) (omega arith)); balances = λ i l. deposits-balance i; queues = λ i l. refl }
+  deposits-call = record { lines = λ i l. ap up (later (linesAt + i) (omega arith)); balances = λ i l. deposits-balance i; queues = λ i l. refl }

@@ -9,7 +9,7 @@ use lib.Dec.{eqb, leb}
 use lib.IntN.{ℤ, pos, _+ℤ_}
 use lib.Signed.{leZ, _≤ℤ_}
 use borrow.Author.Tests.{leb-true, leb-false, eqb-true, eqb-false, not-false}
-use Rattle.tables.specs.Sizes.{places, limit, most, lastNumber}
+use Rattle.tables.specs.Sizes.{places, most, lastNumber, mostAmount}
 use Rattle.tables.specs.Layout.{Tables, membersIn, waitingIn, lastOf, moneyOf}
 use Rattle.tables.proofs.Tests.{and-both, le-true}
 use Rattle.answers.specs.Codes.{first, isMember, isAmount}
@@ -25,7 +25,7 @@ pub record Deposits (T : Tables) (m x : ℕ) : Type 0 where
   pub one : 1 ≤ m
   pub within : m ≤ membersIn T
   pub some : 1 ≤ x
-  pub small : x ≤ limit
+  pub small : x ≤ mostAmount
   pub sum : (moneyOf (T .accounts) +ℤ pos x) ≤ℤ pos most
 
 -- tests that find nothing say so
@@ -48,7 +48,7 @@ pub record Submits (T : Tables) (m n q x : ℕ) : Type 0 where
   pub known : q ≤ membersIn T
   pub apart : m ≢ q
   pub some : 1 ≤ x
-  pub small : x ≤ limit
+  pub small : x ≤ mostAmount
   pub next : n ≡ lastOf (T .counters) (m - 1) + 1
   pub fits : n ≤ lastNumber
   pub room : waitingIn T < places

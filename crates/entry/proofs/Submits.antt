@@ -18,7 +18,8 @@ use Rattle.rule.specs.Day.{submit, call, Accepts, onlyFor}
 use Rattle.rule.specs.Table.{queueOf}
 use Rattle.rule.proofs.Payments.{payer-word, payee-word, amount-word, flags-word}
 use Rattle.rule.proofs.Sums.{eqb-same, eqb-other}
-use Rattle.tables.specs.Layout.{Tables, membersIn, waitingIn, wordsIn, houseIn, lastOf, settledOf}
+use Rattle.tables.specs.Sizes.{members}
+use Rattle.tables.specs.Layout.{Tables, membersIn, waitingIn, wordsIn, houseIn, lastOf, settledOf, lastsAt, settledAt, spareCountersAt, spareSinglesAt, waitingAt}
 use Rattle.tables.specs.Holds.{Payment, Holds}
 use Rattle.entry.specs.Submit.{submittedIn}
 use Rattle.entry.proofs.Judging.{Submits}
@@ -41,10 +42,10 @@ just-long j w i = go (eqb j i)
     go false = refl
 
 module _ {T : Tables} {m n q x : ℕ} (h : Holds T) (s : Submits T m n q x) where
-  payer : m - 1 < 64
+  payer : m - 1 < members
   payer = omega (arith, s .one, s .within, h .counters .few)
 
-  payee : q - 1 < 64
+  payee : q - 1 < members
   payee = omega (arith, s .to, s .known, h .counters .few)
 
   payer-is : payerOf (word (m - 1) (q - 1) x) ≡ m - 1
@@ -68,9 +69,9 @@ module _ {T : Tables} {m n q x : ℕ} (h : Holds T) (s : Submits T m n q x) wher
 
   -- ---- the counters
 
-  cell : (j : ℕ) → j ≢ 1 → j ≢ 64 + (m - 1) → getD (submittedIn T m n q x .counters) j 0 ≡ getD (T .counters) j 0
+  cell : (j : ℕ) → j ≢ waitingAt → j ≢ lastsAt + (m - 1) → getD (submittedIn T m n q x .counters) j 0 ≡ getD (T .counters) j 0
   unfolding submittedIn
-  cell j u v = getD-set-other (set (T .counters) 1 (waitingIn T + 1)) (64 + (m - 1)) j n 0 v ∙ getD-set-other (T .counters) 1 j (waitingIn T + 1) 0 u
+  cell j u v = getD-set-other (set (T .counters) waitingAt (waitingIn T + 1)) (lastsAt + (m - 1)) j n 0 v ∙ getD-set-other (T .counters) waitingAt j (waitingIn T + 1) 0 u
 
   -- the accounts stay,
   pub submits-accounts : submittedIn T m n q x .accounts ≡ T .accounts
@@ -86,20 +87,20 @@ module _ {T : Tables} {m n q x : ℕ} (h : Holds T) (s : Submits T m n q x) wher
   pub submits-waiting : waitingIn (submittedIn T m n q x) ≡ waitingIn T + 1
   unfolding submittedIn
   submits-waiting =
-      getD-set-other (set (T .counters) 1 (waitingIn T + 1)) (64 + (m - 1)) 1 n 0 (λ e. omega arith)
-      ∙ getD-set-same (T .counters) 1 (waitingIn T + 1) 0 (omega (arith, h .counters .broad))
+      getD-set-other (set (T .counters) waitingAt (waitingIn T + 1)) (lastsAt + (m - 1)) waitingAt n 0 (λ e. omega arith)
+      ∙ getD-set-same (T .counters) waitingAt (waitingIn T + 1) 0 (omega (arith, h .counters .broad))
 
   -- and the payer's last number is one more, and each other's stays
   pub submits-last : (i : ℕ) → lastOf (submittedIn T m n q x .counters) i ≡ lastOf (T .counters) i + onlyFor (m - 1) 1 i
   unfolding submittedIn
   submits-last i = elim (ℕ-discrete (m - 1) i) [
-    | yes e ↦ rw (eqb-same e) (ap (lastOf (submittedIn T m n q x .counters)) (sym e) ∙ getD-set-same (set (T .counters) 1 (waitingIn T + 1)) (64 + (m - 1)) n 0 (simp length-set (omega (arith, h .counters .broad, payer))) ∙ s .next ∙ ap (λ j. lastOf (T .counters) j + 1) e)
-    | no e ↦ rw (eqb-other e) (cell (64 + i) (λ g. omega arith) (λ g. e (omega arith)) ∙ omega arith)
+    | yes e ↦ rw (eqb-same e) (ap (lastOf (submittedIn T m n q x .counters)) (sym e) ∙ getD-set-same (set (T .counters) waitingAt (waitingIn T + 1)) (lastsAt + (m - 1)) n 0 (simp length-set (omega (arith, h .counters .broad, payer))) ∙ s .next ∙ ap (λ j. lastOf (T .counters) j + 1) e)
+    | no e ↦ rw (eqb-other e) (cell (lastsAt + i) (λ g. omega arith) (λ g. e (omega arith)) ∙ omega arith)
   ]
 
   submits-settled : (i : ℕ) → settledOf (submittedIn T m n q x .counters) i ≡ settledOf (T .counters) i
   unfolding submittedIn
-  submits-settled i = cell (128 + i) (λ e. omega arith) (λ e. omega (arith, payer))
+  submits-settled i = cell (settledAt + i) (λ e. omega arith) (λ e. omega (arith, payer))
 
   -- ---- the places
 
@@ -125,7 +126,7 @@ module _ {T : Tables} {m n q x : ℕ} (h : Holds T) (s : Submits T m n q x) wher
         rw (e, getD-set-same (T .pays) (waitingIn T) (word (m - 1) (q - 1) x) 0 (omega (arith, s .room, h .places .deep))) submits-payment
   ]
 
-  submits-numbers : (i : ℕ) → i < 64 → settledOf (submittedIn T m n q x .counters) i + length (queueOf i (wordsIn (submittedIn T m n q x))) ≡ lastOf (submittedIn T m n q x .counters) i
+  submits-numbers : (i : ℕ) → i < members → settledOf (submittedIn T m n q x .counters) i + length (queueOf i (wordsIn (submittedIn T m n q x))) ≡ lastOf (submittedIn T m n q x .counters) i
   unfolding submittedIn
   submits-numbers i l =
       rw (submits-settled i, submits-queue i, length-append, just-long, payer-is, submits-last i)
@@ -142,8 +143,8 @@ module _ {T : Tables} {m n q x : ℕ} (h : Holds T) (s : Submits T m n q x) wher
       one = rw submits-count (h .counters .one);
       few = rw submits-count (h .counters .few);
       room = rw submits-waiting (omega (arith, s .room));
-      spare = λ k r. cell (2 + k) (λ e. omega arith) (λ e. omega arith) ∙ h .counters .spare k r;
-      later = λ k r. cell (192 + k) (λ e. omega arith) (λ e. omega (arith, payer)) ∙ h .counters .later k r;
+      spare = λ k r. cell (spareSinglesAt + k) (λ e. omega arith) (λ e. omega arith) ∙ h .counters .spare k r;
+      later = λ k r. cell (spareCountersAt + k) (λ e. omega arith) (λ e. omega (arith, payer)) ∙ h .counters .later k r;
     };
     accounts = rw submits-count (h .accounts);
     places = rw (submits-count, submits-waiting) (record {
@@ -153,7 +154,7 @@ module _ {T : Tables} {m n q x : ℕ} (h : Holds T) (s : Submits T m n q x) wher
     });
     numbers = record {
       each = submits-numbers;
-      no-number = rw submits-count (λ i l r. cell (64 + i) (λ e. omega arith) (λ e. omega (arith, s .one, s .within)) ∙ h .numbers .no-number i l r);
+      no-number = rw submits-count (λ i l r. cell (lastsAt + i) (λ e. omega arith) (λ e. omega (arith, s .one, s .within)) ∙ h .numbers .no-number i l r);
     };
   }
 

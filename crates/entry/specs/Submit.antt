@@ -6,7 +6,7 @@ use lib.Dec.{eqb, leb}
 use lib.ListN.{set}
 use Rattle.rule.specs.Payment.{word}
 use Rattle.tables.specs.Sizes.{places, lastNumber}
-use Rattle.tables.specs.Layout.{Tables, tables, waitingIn, waitingOf, lastOf}
+use Rattle.tables.specs.Layout.{Tables, tables, waitingIn, waitingOf, lastOf, lastsAt, waitingAt}
 use Rattle.answers.specs.Codes.{Test, test, isMember, isAmount}
 use Rattle.answers.specs.Outcome.{Act, outcome}
 use Rattle.answers.specs.declared.Refusal.the-variants.{Member, Same, Amount, Number, Full}
@@ -24,7 +24,7 @@ submitTests c m n q x =
 
 -- one more waits, and the payer's last number is n
 abbrev pub countersSubmitted : List ℕ → ℕ → ℕ → List ℕ
-countersSubmitted c m n = set (set c 1 (waitingOf c + 1)) (64 + (m - 1)) n
+countersSubmitted c m n = set (set c waitingAt (waitingOf c + 1)) (lastsAt + (m - 1)) n
 
 -- the tables with the payment in the first unused place
 unfoldable pub submittedIn : Tables → ℕ → ℕ → ℕ → ℕ → Tables

@@ -13,7 +13,7 @@ ghost use mathlib.Core.Path.{_≡_};
 ghost use Prim.Native.Nat.{_<_, _≤_};
 ghost use lib.IntN.{pos, _+ℤ_};
 ghost use lib.ListN.{set};
-ghost use Rattle.tables.specs.Sizes.{limit};
+ghost use Rattle.tables.specs.Sizes.{members, mostAmount};
 ghost use Rattle.tables.specs.Layout.{tables, countOf, balanceOf};
 ghost use Rattle.tables.specs.Needs.{Bounded};
 ghost use Rattle.tables.specs.Holds.{Counters, Accounts, Holds};
@@ -58,8 +58,8 @@ fn judge_deposit(accounts: &[i64], counters: &[u32], member: u64, amount: u64) -
 
 // Adds the amount to one balance, and answers the new one.
 fn credit(accounts: &mut [i64], seat: usize, amount: u64) -> i64
-    requires { ⌜ Bounded 64 (now accounts) ⌝ }
-    requires { ⌜ (seat < 64) × (amount ≤ limit) ⌝ }
+    requires { ⌜ Bounded members (now accounts) ⌝ }
+    requires { ⌜ (seat < members) × (amount ≤ mostAmount) ⌝ }
     ensures { λ r. ⌜ r ≡ balanceOf (now (accounts .entry)) seat +ℤ pos amount ⌝ }
     ensures { λ r. ⌜ now (accounts .exit) ≡ set (now (accounts .entry)) seat (balanceOf (now (accounts .entry)) seat +ℤ pos amount) ⌝ }
 {

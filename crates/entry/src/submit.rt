@@ -10,8 +10,8 @@ ghost use mathlib.Core.Path.{_≡_};
 ghost use Prim.Native.Nat.{_+_, _-_, _<_, _≤_};
 ghost use lib.ListN.{length, set};
 ghost use Rattle.rule.specs.Payment.{word};
-ghost use Rattle.tables.specs.Sizes.{limit};
-ghost use Rattle.tables.specs.Layout.{tables, waitingOf, countOf};
+ghost use Rattle.tables.specs.Sizes.{lastNumber, members, mostAmount, places, table};
+ghost use Rattle.tables.specs.Layout.{tables, waitingOf, countOf, lastsAt, waitingAt};
 ghost use Rattle.tables.specs.Holds.{Holds};
 ghost use Rattle.answers.specs.Codes.{first};
 ghost use Rattle.answers.specs.Outcome.{outcome, held};
@@ -34,7 +34,7 @@ pub fn submit(
     match j {
         Judged::Bad(r) => Submitted::Refused(r),
         Judged::Fine => {
-            let at = wide(counters[1]);
+            let at = wide(counters[House::WAITING_AT]);
             append(pays, at, payment(payer, payee, amount));
             accept(counters, payer, number);
             Submitted::Done
@@ -43,7 +43,7 @@ pub fn submit(
 }
 
 fn judge_submit(counters: &[u32], payer: u64, number: u64, payee: u64, amount: u64) -> Judged
-    requires { ⌜ (512 ≤ length (now counters)) × (countOf (now counters) ≤ 64) ⌝ }
+    requires { ⌜ (table ≤ length (now counters)) × (countOf (now counters) ≤ members) ⌝ }
     ensures { λ r. ⌜ r ≡ first (submitTests (now (counters .entry)) payer number payee amount) ⌝ }
 {
     if !is_member(counters, payer) {
@@ -61,7 +61,7 @@ fn judge_submit(counters: &[u32], payer: u64, number: u64, payee: u64, amount: u
     if !is_next(counters, payer, number) {
         return Judged::Bad(Refusal::Number);
     }
-    if wide(counters[1]) >= House::PLACES {
+    if wide(counters[House::WAITING_AT]) >= House::PLACES {
         return Judged::Bad(Refusal::Full);
     }
     Judged::Fine
@@ -69,11 +69,11 @@ fn judge_submit(counters: &[u32], payer: u64, number: u64, payee: u64, amount: u
 
 // The number is the one that the payer gives next.
 fn is_next(counters: &[u32], payer: u64, number: u64) -> bool
-    requires { ⌜ (512 ≤ length (now counters)) × (1 ≤ payer) × (payer ≤ 64) ⌝ }
+    requires { ⌜ (table ≤ length (now counters)) × (1 ≤ payer) × (payer ≤ members) ⌝ }
     ensures { λ r. ⌜ r ≡ isNext (now (counters .entry)) payer number ⌝ }
 {
     let seat = (payer - 1) as usize;
-    let last = wide(counters[64 + seat]) as u64;
+    let last = wide(counters[House::LASTS_AT + seat]) as u64;
     if number != last + 1 {
         return false;
     }
@@ -82,7 +82,7 @@ fn is_next(counters: &[u32], payer: u64, number: u64) -> bool
 
 // The word of a payment.
 fn payment(payer: u64, payee: u64, amount: u64) -> u64
-    requires { ⌜ (1 ≤ payer) × (payer ≤ 64) × (1 ≤ payee) × (payee ≤ 64) × (amount ≤ limit) ⌝ }
+    requires { ⌜ (1 ≤ payer) × (payer ≤ members) × (1 ≤ payee) × (payee ≤ members) × (amount ≤ mostAmount) ⌝ }
     ensures { λ r. ⌜ r ≡ word (payer - 1) (payee - 1) amount ⌝ }
 {
     amount * 65536 + (payer - 1) * 64 + (payee - 1)
@@ -90,12 +90,12 @@ fn payment(payer: u64, payee: u64, amount: u64) -> u64
 
 // One more waits, and the payer's last number is the one given.
 fn accept(counters: &mut [u32], payer: u64, number: u64)
-    requires { ⌜ (512 ≤ length (now counters)) × (1 ≤ payer) × (payer ≤ 64) × (waitingOf (now counters) < 2048) × (number ≤ 4294967295) ⌝ }
-    ensures { λ _. ⌜ now (counters .exit) ≡ set (set (now (counters .entry)) 1 (waitingOf (now (counters .entry)) + 1)) (64 + (payer - 1)) number ⌝ }
+    requires { ⌜ (table ≤ length (now counters)) × (1 ≤ payer) × (payer ≤ members) × (waitingOf (now counters) < places) × (number ≤ lastNumber) ⌝ }
+    ensures { λ _. ⌜ now (counters .exit) ≡ set (set (now (counters .entry)) waitingAt (waitingOf (now (counters .entry)) + 1)) (lastsAt + (payer - 1)) number ⌝ }
 {
     let seat = (payer - 1) as usize;
-    counters[1] += 1;
-    counters[64 + seat] = number as u32;
+    counters[House::WAITING_AT] += 1;
+    counters[House::LASTS_AT + seat] = number as u32;
 }
 
 // The payment stands in its place.

@@ -11,8 +11,6 @@ use Rattle.rule.specs.Kernel.{Counts, sum}
 use Rattle.rule.specs.House.{House, LargestSet, Same, booked, money}
 use Rattle.rule.specs.Day.{Call as Noted, deposits as depositsOf, payments, credited, lined, atOnce}
 use Rattle.rule.proofs.Sums.{sum-cong}
-use Rattle.rule.proofs.Demands.{largest-exists}
-use Rattle.rule.proofs.Day.{at-once-sound}
 use Rattle.tables.specs.Layout.{Tables, membersIn, houseIn, balanceOf, lineOf, moneyOf}
 use Rattle.tables.specs.Holds.{Holds}
 use Rattle.answers.specs.Codes.{first}
@@ -31,7 +29,7 @@ use Rattle.calls.specs.Reply.{Lent, lends}
 use Rattle.calls.specs.Telling.{toldOpened, toldResolved}
 use Rattle.days.specs.Days.{Request, Begun, Ended, Equal, queueIn, made}
 use Rattle.days.proofs.Sums.{day-money, chain-covered}
-use Rattle.days.proofs.Openings.{begun-stands, begun-members, begun-day, day-ends-as-at-once, days-end-equal, days-end-queues}
+use Rattle.days.proofs.Openings.{begun-stands, begun-members, day-ends-as-at-once, days-end-equal, days-end-queues}
 use Rattle.hosts.specs.Hosts.{Ask, opens, deposits, submits, releases, groups, resolves, replied, Call, Chain, notes, Day, openingIn}
 use Rattle.hosts.proofs.Replies.{refused-keeps, Accepted, held-accepted, called-accepted}
 use Rattle.hosts.proofs.Sizes.{kept-opened}
@@ -82,14 +80,14 @@ module _ {n : ℕ} {u v s t : List ℕ} (c : Call (opens n u v) 0 s t) where
     pub day-sum : moneyOf (accountsIn e) ≡ money n (entry (signedIn u)) +ℤ pos (sum n (depositsOf (notes d)))
     day-sum =
         let k = chained opened-stands d in
-        ap (λ (T : Tables). moneyOf (T .accounts)) (k .is) ∙ day-money begun (requests d)
+        ap (λ (T : Tables). moneyOf (T .accounts)) (k .is) ∙ day-money begun (requests d) (k .inside)
         ∙ ap (λ m. money n (entry (signedIn u)) +ℤ pos m) (sum-cong n (depositsOf (made (requests d) (tablesIn t))) (depositsOf (notes d)) (λ i q. k .deposits i))
 
     -- and each member is at or above minus its line
     pub day-covered : (i : ℕ) → i < n → pos 0 ≤ℤ (balanceOf (accountsIn e) i +ℤ lineOf (accountsIn e) i)
     day-covered i q =
         subst (λ (T : Tables). pos 0 ≤ℤ (balanceOf (T .accounts) i +ℤ lineOf (T .accounts) i)) (sym (chained opened-stands d .is))
-        (chain-covered (begun-stands begun) (requests d) i (omega (arith, begun-members begun)))
+        (chain-covered (begun-stands begun) (requests d) (chained opened-stands d .inside) i (omega (arith, begun-members begun)))
 
 -- ---- after an accepted call
 
@@ -123,6 +121,7 @@ module _ {n : ℕ} {u v t : List ℕ} (d : Day n u v t) where
       let c = d .last in
       let g = linked (link .stands) c tt in
       record {
+        inside = link .inside;
         given = countsIn (c .counts);
         told = largestIn (tablesIn (d .eve));
         resolution = told (membersIn (tablesIn (d .eve))) (houseIn (tablesIn (d .eve))) (listed (largestIn (tablesIn (d .eve))));
@@ -132,10 +131,9 @@ module _ {n : ℕ} {u v t : List ℕ} (d : Day n u v t) where
   -- a day ends as rule 2 says for the opening balances, all deposits and all payments taken at once: there is a largest set, and what it leaves is in the tables
   pub ends-as-at-once : (z : Counts) × (LargestSet n (atOnce (openingIn u v) (notes (d .calls))) z) × (Same n (booked n (atOnce (openingIn u v) (notes (d .calls))) z) (houseIn (tablesIn t)))
   ends-as-at-once =
-      let o = begun (d .first) in
-      let z = largest-exists (at-once-sound (begun-day o ended .sound) (notes (d .calls))) in
+      let z = day-ends-as-at-once (begun (d .first)) ended in
       let e = at-once-same (openingIn u v) (made (requests (d .calls)) (tablesIn (d .morning))) (notes (d .calls)) (link .deposits) (link .payments) in
-      (z .0, z .1, subst (λ H. Same n (booked n H (z .0)) (houseIn (tablesIn t))) e (day-ends-as-at-once o ended (subst (λ H. LargestSet n H (z .0)) (sym e) (z .1))))
+      (z .0, subst (λ H. LargestSet n H (z .0)) e (z .1), subst (λ H. Same n (booked n H (z .0)) (houseIn (tablesIn t))) e (z .2))
 
 module _ {n : ℕ} {u v t r : List ℕ} (d : Day n u v t) (e : Day n u v r)
     (paid-in : (i : ℕ) → i < n → depositsOf (notes (e .calls)) i ≡ depositsOf (notes (d .calls)) i)

@@ -19,7 +19,7 @@ use Rattle.lists.proofs.Back.{Kept, kept-fits, stored-long, tables-back}
 use Rattle.calls.specs.Reply.{Lent, lends}
 use Rattle.calls.specs.Telling.{toldDeposited, toldSubmitted, toldReleased, toldGrouped, toldResolved}
 use Rattle.days.specs.Days as day
-use Rattle.days.specs.Days.{Request, afterAll, made}
+use Rattle.days.specs.Days.{Request, afterAll, made, Inside as DayInside}
 use Rattle.hosts.specs.Hosts.{Ask, opens, deposits, submits, releases, groups, resolves, Call, Inside, accepted, noted}
 use Rattle.hosts.proofs.Replies.{refused-keeps, Accepted, called-accepted}
 use Rattle.hosts.proofs.Sizes.{kept-after}
@@ -32,6 +32,7 @@ pub record Stands (s : List ℕ) : Type 0 where
 -- from s to t the requests qs were made, and of them cs is noted
 pub record Link (s t : List ℕ) (cs : List Noted) (qs : List Request) : Type 0 where
   pub stands : Stands t
+  pub inside : DayInside qs (tablesIn s)
   pub is : tablesIn t ≡ afterAll qs (tablesIn s)
   pub deposits : (i : ℕ) → depositsOf (made qs (tablesIn s)) i ≡ depositsOf cs i
   pub payments : (i : ℕ) → payments (made qs (tablesIn s)) i ≡ payments cs i
@@ -55,6 +56,7 @@ requested resolves c = day.resolves (countsIn c) ∷ []
 pub record Took (s t : List ℕ) (cs : List Noted) (qs : List Request) : Type 0 where
   pub room : 22528 ≤ length s
   pub holds : Holds (tablesIn s)
+  pub inside : DayInside qs (tablesIn s)
   pub stored : t ≡ withTables s (afterAll qs (tablesIn s))
   pub deposits : (i : ℕ) → depositsOf (made qs (tablesIn s)) i ≡ depositsOf cs i
   pub payments : (i : ℕ) → payments (made qs (tablesIn s)) i ≡ payments cs i
@@ -69,37 +71,37 @@ taken (opens n u v) c i = absurd (i refl)
 taken {s} (deposits m x) c i =
     let k = depositAct m x in
     let a = called-accepted k 8 toldDeposited (λ r. refl) (lends s (c .counts) (c .answer)) (c .promise) in
-    record { room = a .room; holds = judgement-fine k (tablesIn s) (a .fine) .0; stored = stored-is a; deposits = λ i. rw (a .fine); payments = λ i. rw (a .fine) }
+    record { room = a .room; holds = judgement-fine k (tablesIn s) (a .fine) .0; inside = (tt, tt); stored = stored-is a; deposits = λ i. rw (a .fine); payments = λ i. rw (a .fine) }
 taken {s} (submits m n q x) c i =
     let k = submitAct m n q x in
     let a = called-accepted k 0 toldSubmitted (λ r. refl) (lends s (c .counts) (c .answer)) (c .promise) in
-    record { room = a .room; holds = judgement-fine k (tablesIn s) (a .fine) .0; stored = stored-is a; deposits = λ i. rw (a .fine); payments = λ i. rw (a .fine) }
+    record { room = a .room; holds = judgement-fine k (tablesIn s) (a .fine) .0; inside = (tt, tt); stored = stored-is a; deposits = λ i. rw (a .fine); payments = λ i. rw (a .fine) }
 taken {s} (releases m) c i =
     let k = releaseAct m in
     let a = called-accepted k 16 toldReleased (λ r. refl) (lends s (c .counts) (c .answer)) (c .promise) in
-    record { room = a .room; holds = judgement-fine k (tablesIn s) (a .fine) .0; stored = stored-is a; deposits = λ i. rw (a .fine); payments = λ i. rw (a .fine) }
+    record { room = a .room; holds = judgement-fine k (tablesIn s) (a .fine) .0; inside = (tt, tt); stored = stored-is a; deposits = λ i. rw (a .fine); payments = λ i. rw (a .fine) }
 taken {s} (groups u) c i =
     let k = groupAct (countsIn u) in
     let a = called-accepted k 16 toldGrouped (λ r. refl) (lends s (c .counts) (c .answer)) (c .promise) in
-    record { room = a .room; holds = judgement-fine k (tablesIn s) (a .fine) .0; stored = stored-is a; deposits = λ i. rw (a .fine); payments = λ i. rw (a .fine) }
+    record { room = a .room; holds = judgement-fine k (tablesIn s) (a .fine) .0; inside = (tt, tt); stored = stored-is a; deposits = λ i. rw (a .fine); payments = λ i. rw (a .fine) }
 taken {s} resolves c i =
     let k = resolveAct (countsIn (c .counts)) in
     let a = called-accepted k 48 toldResolved (λ r. refl) (lends s (c .counts) (c .answer)) (c .promise) in
-    record { room = a .room; holds = judgement-fine k (tablesIn s) (a .fine) .0; stored = stored-is a; deposits = λ i. rw (a .fine); payments = λ i. rw (a .fine) }
+    record { room = a .room; holds = judgement-fine k (tablesIn s) (a .fine) .0; inside = (tt, tt); stored = stored-is a; deposits = λ i. rw (a .fine); payments = λ i. rw (a .fine) }
 
-kept-all : {T : Tables} → Kept T → (qs : List Request) → Kept (afterAll qs T)
-kept-all k [] = k
-kept-all k (q ∷ qs) = kept-all (kept-after k q) qs
+kept-all : {T : Tables} → Kept T → (qs : List Request) → DayInside qs T → Kept (afterAll qs T)
+kept-all k [] g = k
+kept-all k (q ∷ qs) g = kept-all (kept-after k q (g .0)) qs (g .1)
 
 -- what it stored is read back
 pub took-link : {s t : List ℕ} {cs : List Noted} {qs : List Request} → Kept (tablesIn s) → Took s t cs qs → Link s t cs qs
 took-link {s} {qs = qs} k a =
-    let g = stored-stands s (a .room) (kept-all k qs) (a .stored) in
-    record { stands = g .0; is = g .1; deposits = a .deposits; payments = a .payments }
+    let g = stored-stands s (a .room) (kept-all k qs (a .inside)) (a .stored) in
+    record { stands = g .0; inside = a .inside; is = g .1; deposits = a .deposits; payments = a .payments }
 
 -- so any call is its request, or nothing
 pub linked : {s t : List ℕ} {q : Ask} {k : ℕ} → Stands s → (c : Call q k s t) → Inside q k → Link s t (accepted k (noted q)) (accepted k (requested q (c .counts)))
 linked {q = q} {k = zero} h c i = took-link (h .kept) (taken q c i)
 linked {s} {q = q} {k = suc k} h c i =
     let e = ap (λ (x : Lent). x .tables) (refused-keeps q (lends s (c .counts) (c .answer)) (c .promise) (λ e. omega arith)) in
-    record { stands = subst Stands (sym e) h; is = ap tablesIn e; deposits = λ i. refl; payments = λ i. refl }
+    record { stands = subst Stands (sym e) h; inside = tt; is = ap tablesIn e; deposits = λ i. refl; payments = λ i. refl }

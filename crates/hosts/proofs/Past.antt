@@ -10,7 +10,6 @@ use Rattle.words.specs.Row.{plain}
 use Rattle.words.proofs.Row.{length-putRow, putRow-outside}
 use Rattle.tables.specs.Layout.{Tables}
 use Rattle.answers.specs.Outcome.{Outcome, held, called}
-use Rattle.answers.specs.Codes.{first}
 use Rattle.answers.specs.declared.Opened.{Opened}
 use Rattle.answers.specs.declared.Opened.the-variants as opening
 use Rattle.answers.specs.declared.Deposited.{Deposited}
@@ -23,7 +22,6 @@ use Rattle.answers.specs.declared.Grouped.{Grouped}
 use Rattle.answers.specs.declared.Grouped.the-variants as grouping
 use Rattle.answers.specs.declared.Resolved.{Resolved}
 use Rattle.answers.specs.declared.Resolved.the-variants as resolving
-use Rattle.answers.proofs.Outcomes.{decided-keeps}
 use Rattle.opening.specs.Open.{openAct}
 use Rattle.entry.specs.Deposit.{depositAct}
 use Rattle.entry.specs.Submit.{submitAct}
@@ -36,7 +34,7 @@ use Rattle.calls.specs.Reply.{Lent, Told, yes, no, written, onBytes, reply}
 use Rattle.calls.specs.Telling.{toldOpened, toldDeposited, toldSubmitted, toldReleased, toldGrouped, toldWith, toldResolved}
 use Rattle.days.specs.Days as day
 use Rattle.hosts.specs.Hosts.{Ask, opens, deposits, submits, releases, groups, resolves, replied, least}
-use Rattle.hosts.proofs.Sizes.{opened-least, after-least}
+use Rattle.hosts.proofs.Sizes.{after-least}
 
 -- s became t, and what lies from place n on is as it was
 pub record Stays (n : ℕ) (s t : List ℕ) : Type 0 where
@@ -98,13 +96,9 @@ resolved-parts : (k : List ℕ) (r : Resolved) → Within 48 (toldWith k r)
 resolved-parts k (resolving.Done x) = omega arith
 resolved-parts k (resolving.Refused r) = tt
 
-open-least : {T : Tables} (n : ℕ) (u v : List ℕ) → Least T → Least (held (openAct n (signedIn u) (signedIn v)) T .after)
-unfolding held openAct
-open-least {T} n u v l = let k = openAct n (signedIn u) (signedIn v) in decided-keeps k T Least (first (k .tests T)) l (λ e. opened-least n (signedIn u) (signedIn v) l)
-
 -- so with every reply,
 replied-past : (q : Ask) (x : Lent) → Past (least q) x (replied q x .1)
-replied-past (opens n u v) x = reply-past x 8 toldOpened (held (openAct n (signedIn u) (signedIn v))) (open-least n u v (least-in (x .tables))) opened-parts
+replied-past (opens n u v) x = reply-past x 8 toldOpened (held (openAct n (signedIn u) (signedIn v))) (after-least (least-in (x .tables)) (day.opens n (signedIn u) (signedIn v))) opened-parts
 replied-past (deposits m a) x = reply-past x 8 toldDeposited (called (depositAct m a)) (after-least (least-in (x .tables)) (day.deposits m a)) deposited-parts
 replied-past (submits m n q a) x = reply-past x 0 toldSubmitted (called (submitAct m n q a)) (after-least (least-in (x .tables)) (day.submits m n q a)) submitted-parts
 replied-past (releases m) x = reply-past x 16 toldReleased (called (releaseAct m)) (after-least (least-in (x .tables)) (day.releases m)) released-parts

@@ -1,7 +1,6 @@
 // The house: the six calls on any lent tables. Each looks whether the tables hold a state, and then acts.
 use answers::Deposited;
 use answers::Grouped;
-use answers::Judged;
 use answers::Opened;
 use answers::Refusal;
 use answers::Released;
@@ -28,17 +27,7 @@ pub fn open(
 ) -> Opened
     ensures { λ r. ⌜ outcome r (tables (now (accounts .exit)) (now (counters .exit)) (now (pays .exit))) ≡ held (openAct count (now (balances .entry)) (now (lines .entry))) (tables (now (accounts .entry)) (now (counters .entry)) (now (pays .entry))) ⌝ }
 {
-    let j = opening::judge(accounts, counters, pays, count, balances, lines);
-    match j {
-        Judged::Bad(r) => Opened::Refused(r),
-        Judged::Fine => {
-            let n = count as usize;
-            opening::fill_accounts(accounts, n, balances, lines);
-            opening::fill_counters(counters, n);
-            opening::fill_pays(pays);
-            Opened::Done(tables::look::total(balances, n))
-        }
-    }
+    opening::open(accounts, counters, pays, count, balances, lines)
 }
 
 // A deposit to a member, on any lent tables.

@@ -13,7 +13,7 @@ use Rattle.rule.specs.Payment.{amountOf}
 use Rattle.rule.proofs.Ints.{ints, ≤ℤ-is}
 use Rattle.words.specs.Row.{putRow, plain}
 use Rattle.words.proofs.Row.{length-row, length-putRow, putRow-outside, row-putRow, row-back-plain, row-back-signed, row-below}
-use Rattle.tables.specs.Sizes.{limit, lastNumber}
+use Rattle.tables.specs.Sizes.{lastNumber, mostLine}
 use Rattle.tables.specs.Layout.{Tables, membersIn, waitingIn, lineOf, lastOf}
 use Rattle.tables.specs.Holds.{Holds}
 use Rattle.tables.proofs.Same.{tables-same}
@@ -105,7 +105,7 @@ module _ {T : Tables} (k : Kept T) where
         | yes l ↦
             let o = k .holds .accounts .holders j l in
             let t1 = ≤ℤ-is (pos 0) (lineOf (T .accounts) j) (o .line) in
-            let t2 = ≤ℤ-is (lineOf (T .accounts) j) (pos limit) (o .small) in
+            let t2 = ≤ℤ-is (lineOf (T .accounts) j) (pos mostLine) (o .small) in
             omega (ints, t1, t2)
         | no l ↦ rw (k .holds .accounts .no-line j (omega arith) h) zero-fits
       ]

@@ -15,8 +15,8 @@ use Rattle.rule.specs.House.{House, waits, sent}
 use Rattle.rule.specs.Verdict.{verdict}
 use Rattle.rule.proofs.Sums.{sum-mono}
 use Rattle.rule.proofs.Bounds.{worth-mono}
+use Rattle.tables.specs.Sizes.{mostAmount}
 use Rattle.sets.specs.Sets.{sizeOf, lowestOf}
-use Rattle.tables.specs.Sizes.{limit}
 use Rattle.tables.specs.Layout.{Tables, membersIn, wordsIn, houseIn}
 use Rattle.tables.specs.Holds.{Payment, Holds}
 use Rattle.tables.proofs.Houses.{queue-each, holds-payment, waiting-sum}
@@ -25,20 +25,20 @@ use Rattle.settling.specs.Release.{releaseAct}
 use Rattle.answers.specs.declared.Judged.the-variants.{Fine}
 use Rattle.answers.proofs.Judging.{first-fine, member-in}
 
-total-small : (l : List ℕ) → ((k : ℕ) → k < length l → amountOf (getD l k 0) ≤ limit) → total amountOf l ≤ length l * limit
+total-small : (l : List ℕ) → ((k : ℕ) → k < length l → amountOf (getD l k 0) ≤ mostAmount) → total amountOf l ≤ length l * mostAmount
 total-small [] f = omega arith
 total-small (w ∷ ws) f = omega (arith, f 0 (omega arith), total-small ws (λ k h. f (suc k) (omega arith)))
 
-sum-scaled : (n : ℕ) (f g : Counts) → ((i : ℕ) → i < n → f i ≤ g i * limit) → sum n f ≤ sum n g * limit
+sum-scaled : (n : ℕ) (f g : Counts) → ((i : ℕ) → i < n → f i ≤ g i * mostAmount) → sum n f ≤ sum n g * mostAmount
 sum-scaled zero f g h = omega arith
 sum-scaled (suc n) f g h = omega (arith, sum-scaled n f g (λ i l. h i (omega arith)), h n (omega arith))
 
 module _ {T : Tables} (h : Holds T) where
   -- each payment in a queue is one of at most 10^12,
-  pub queued-small : (i k : ℕ) → k < waits (houseIn T) i → amountOf (getD (houseIn T .queue i) k 0) ≤ limit
+  pub queued-small : (i k : ℕ) → k < waits (houseIn T) i → amountOf (getD (houseIn T .queue i) k 0) ≤ mostAmount
   queued-small i k l = queue-each (Payment (membersIn T)) i (wordsIn T) (holds-payment h) k l .0 .small
 
-  sent-small : (z : Counts) (i : ℕ) → z i ≤ waits (houseIn T) i → sent (houseIn T) z i ≤ waits (houseIn T) i * limit
+  sent-small : (z : Counts) (i : ℕ) → z i ≤ waits (houseIn T) i → sent (houseIn T) z i ≤ waits (houseIn T) i * mostAmount
   unfolding sent worth
   sent-small z i l =
       let q = houseIn T .queue i in
@@ -50,7 +50,7 @@ module _ {T : Tables} (h : Holds T) where
   counts-few z u = omega (arith, sum-mono (membersIn T) z (waits (houseIn T)) u, waiting-sum h, h .counters .room)
 
   -- and their sum is small
-  pub sum-small : (z : Counts) → Under (membersIn T) z (waits (houseIn T)) → sum (membersIn T) (sent (houseIn T) z) ≤ 2048 * limit
+  pub sum-small : (z : Counts) → Under (membersIn T) z (waits (houseIn T)) → sum (membersIn T) (sent (houseIn T) z) ≤ 2048 * mostAmount
   sum-small z u = omega (arith, sum-scaled (membersIn T) (sent (houseIn T) z) (waits (houseIn T)) (λ i l. sent-small z i (u i l)), waiting-sum h, h .counters .room)
 
 -- an accepted release is of a member with payments waiting

@@ -10,7 +10,7 @@ use lib.IntN.{ℤ, pos, negsuc, natAbs, _+ℤ_}
 use lib.ListN.{getD, take, length-set, List·getD-eq-default}
 use Rattle.rule.specs.Ints.{up, down}
 use Rattle.rule.proofs.Ints.{plus, ≤ℤ-is}
-use Rattle.tables.specs.Sizes.{members, limit, most}
+use Rattle.tables.specs.Sizes.{members, most, mostAmount, mostLine}
 use Rattle.tables.specs.Layout.{Tables, membersIn, houseIn, countOf, balanceOf, moneyOf}
 use Rattle.tables.specs.Holds.{Accounts, Holds}
 use Rattle.tables.proofs.Tests.{and-both}
@@ -79,9 +79,9 @@ module _ {n : ℕ} {a : List ℤ} (h : Accounts n a) where
       let s = ≤ℤ-is (moneyOf a) (pos most) (h .sum) in
       let z : 0 < 64 = omega arith in
       let l = accounts-low h 0 z in
-      abs-small (moneyOf a) (omega arith) (omega (arith, balance-high limit (balanceOf a) members 0 z (accounts-low h)))
+      abs-small (moneyOf a) (omega arith) (omega (arith, balance-high mostLine (balanceOf a) members 0 z (accounts-low h)))
 
-  deposit-small : (i x : ℕ) → i < 64 → x ≤ limit → natAbs (balanceOf a i +ℤ pos x) < 10 ^ 16
+  deposit-small : (i x : ℕ) → i < 64 → x ≤ mostAmount → natAbs (balanceOf a i +ℤ pos x) < 10 ^ 16
   deposit-small i x l q =
       let n = accounts-near h i l in
       abs-small (balanceOf a i +ℤ pos x) (omega (arith, n .above, n .below, plus (balanceOf a i) (pos x))) (omega (arith, n .above, n .below, plus (balanceOf a i) (pos x)))

@@ -28,15 +28,15 @@ use Rattle.night.specs.Lines.{balanceSays}
 use Rattle.cut.specs.Lines.{Line, linesOf}
 use Rattle.cut.specs.Chunks.{runOf}
 use Rattle.sheet.specs.Sheet.{Night, mostLines, textsOf, entryIn, stepOf, morning, closed, sheetOf}
-use Rattle.days.specs.Days.{Request, after, accepted, afterAll, made, Ended, openingOf, Begun, Equal}
+use Rattle.days.specs.Days.{Request, after, accepted, afterAll, made, Inside, Ended, openingOf, Begun, Equal}
 use Rattle.days.proofs.Joins.{deposits-join, payments-join}
-use Rattle.days.proofs.Chains.{chain-carries}
+use Rattle.days.proofs.Chains.{chain-carries, after-join, made-join, inside-first}
 use Rattle.days.proofs.Demand3.{ended-stands}
-use Rattle.days.proofs.Openings.{begun-stands, begun-members, day-ends-as-at-once, days-end-equal}
+use Rattle.days.proofs.Openings.{begun-stands, begun-members, day-ends-as-largest, days-end-equal}
 use Rattle.days.proofs.Sums.{day-money}
 use Rattle.nights.specs.Files.{resolution, isEnd, nightAfter, Opens, balancesIn, creditsIn, membersOf, OpenAlike, openedBy, Whole, requestsAfter, tablesAfter, madeAfter, LastResolves, closingOf, closingIn, EndsIn}
 use Rattle.nights.proofs.Calls.{resolves-fine}
-use Rattle.nights.proofs.Requests.{after-join, made-join}
+use Rattle.nights.proofs.Requests.{lines-inside}
 use Rattle.nights.proofs.Runs.{Gone, run-join, run-few, lines-gone, end-tables, end-closes}
 use Rattle.nights.proofs.Openings.{opens-begun}
 use Rattle.nights.proofs.Closing.{closing-same, closing-money, closing-house, closing-alike}
@@ -87,7 +87,7 @@ module _ {opening day : List Line} {file : List ℕ} (w : Whole opening day file
         earlier = file-closes .earlier ++ b;
         parts =
             file-closes .parts
-            ∙ ap (λ (l : List ℕ). file-closes .earlier ++ l) (closing-money t ∙ ap (λ z. b ++ textOf (S.Money z)) (day-money begun (requestsAfter opening day)))
+            ∙ ap (λ (l : List ℕ). file-closes .earlier ++ l) (closing-money t ∙ ap (λ z. b ++ textOf (S.Money z)) (day-money begun (requestsAfter opening day) (lines-inside (membersOf opening) day (openedBy opening))))
             ∙ sym (append-assoc (file-closes .earlier) b (textOf (S.Money (money (membersOf opening) (entry (balancesIn opening)) +ℤ pos (sum (membersOf opening) (deposits (madeAfter opening day)))))));
       }
 
@@ -124,16 +124,20 @@ module _ {opening day : List Line} (o : Opens opening) (r : LastResolves opening
       ∙ ap (λ (l : List ℕ). payments (made (r .eve) T) i ++ l) (settle-payments (judgement (resolveAct (replicate (membersOf opening) 0)) eveTables) (listed (largestIn eveTables)) i)
       ∙ append-nil (payments (made (r .eve) T) i)
 
+  eve-inside : Inside (r .eve) T
+  eve-inside = inside-first (r .eve) (last ∷ []) T (subst (λ qs. Inside qs T) (r .parts) (lines-inside (membersOf opening) day T))
+
   -- it was accepted
   pub last-ended : Ended T (r .eve) (tablesAfter opening day)
   unfolding resolveAct
   last-ended =
-      let c = chain-carries (begun-stands (opens-begun o)) (r .eve) in
+      let c = chain-carries (begun-stands (opens-begun o)) (r .eve) eve-inside in
       let k = resolveAct (replicate (membersOf opening) 0) in
       let u : called k eveTables ≡ k .does eveTables = called-held k eveTables (holds-state (c .stands)) ∙ held-fine k eveTables (resolves-fine (c .stands) (c .members ∙ begun-members (opens-begun o))) in
       let e : tablesAfter opening day ≡ called k eveTables .after = ap (λ qs. afterAll qs T) (r .parts) ∙ after-join (r .eve) (last ∷ []) T in
       let a : bookedIn eveTables (listed (largestIn eveTables)) ≡ tablesAfter opening day = sym (e ∙ ap (λ (v : Outcome (Resolved × List ℕ)). v .after) u) in
       record {
+        inside = eve-inside;
         given = replicate (membersOf opening) 0;
         told = largestIn eveTables;
         resolution = told (membersIn eveTables) (houseIn eveTables) (listed (largestIn eveTables));
@@ -143,7 +147,7 @@ module _ {opening day : List Line} (o : Opens opening) (r : LastResolves opening
   -- so it ends as rule 2 says for the opening balances, all deposits and all payments taken at once
   pub file-as-at-once : {z : Counts} → LargestSet (membersOf opening) (atOnce (openingOf (balancesIn opening) (creditsIn opening)) (made (r .eve) T)) z
       → Same (membersOf opening) (booked (membersOf opening) (atOnce (openingOf (balancesIn opening) (creditsIn opening)) (made (r .eve) T)) z) (houseIn (tablesAfter opening day))
-  file-as-at-once = day-ends-as-at-once (opens-begun o) last-ended
+  file-as-at-once = day-ends-as-largest (opens-begun o) last-ended
 
 -- ---- demand 3: two files
 
@@ -198,6 +202,6 @@ module _ {opening day : List Line} {file : List ℕ} (w : Whole opening day file
       let m : LargestSet n eveHouse z = largest-same once-same l in
       let s : Same n (booked n eveHouse z) (houseIn W) = file-as-at-once (w .opens) r m in
       let t : Same n (booked n atOnceHouse z) (booked n eveHouse z) = record { lines = λ i q. refl; balances = position-same once-same z; queues = λ i q. rw (once-same .queues i q) } in
-      let h = chain-carries (begun-stands b) (requestsAfter opening day) in
+      let h = chain-carries (begun-stands b) (requestsAfter opening day) (lines-inside n day (openedBy opening)) in
       let e : closingOf W ≡ closingIn n (houseIn W) = closing-house (h .stands) ∙ ap (λ k. closingIn k (houseIn W)) (h .members ∙ begun-members b) in
       subst (EndsIn (sheetOf file)) (e ∙ closing-alike n (booked n atOnceHouse z) (houseIn W) (same-trans t s)) (file-closes w)

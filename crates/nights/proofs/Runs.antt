@@ -18,10 +18,10 @@ use Rattle.sheet.specs.Sheet.{mostLines, Night, textsOf, told, isOver, finished
 use Rattle.sheet.proofs.Futures.{quiet-same}
 use Rattle.sheet.proofs.Over.{over-quiet}
 use Rattle.days.specs.Days.{Request, afterAll}
-use Rattle.days.proofs.Chains.{chain-carries}
+use Rattle.days.proofs.Chains.{chain-carries, after-join}
 use Rattle.nights.specs.Files.{requestsOf, requestsIn, isEnd}
 use Rattle.nights.proofs.Calls.{line-calls, day-stays, end-does}
-use Rattle.nights.proofs.Requests.{after-join}
+use Rattle.nights.proofs.Requests.{line-inside}
 
 -- ---- any lines
 
@@ -92,7 +92,7 @@ lines-gone d [] day h q on few = record { stage = day; lines = omega arith; afte
 lines-gone {n} d (l ∷ ls) day h q on few =
     let qs = requestsOf n (entryIn l) (countsIn l) in
     let g = line-gone d l day (omega arith) h q (on .0) in
-    let c = chain-carries h qs in
+    let c = chain-carries h qs (line-inside n (entryIn l) (countsIn l) (d .tables)) in
     let k = lines-gone {n = n} (stepOf d l) ls (g .stage) (subst Holds (sym (g .after)) (c .stands)) (ap membersIn (g .after) ∙ c .members ∙ q) (on .1) (omega (arith, g .lines)) in
     record {
       stage = k .stage;

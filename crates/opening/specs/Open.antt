@@ -8,8 +8,8 @@ use lib.Signed.{leZ}
 use lib.ListN.{length, getD}
 use Rattle.rule.specs.Lists.{fill}
 use Rattle.rule.specs.House.{money}
-use Rattle.tables.specs.Sizes.{members, most}
-use Rattle.tables.specs.Layout.{Tables, tables}
+use Rattle.tables.specs.Sizes.{members, most, places, table}
+use Rattle.tables.specs.Layout.{Tables, tables, linesAt, membersAt}
 use Rattle.tables.specs.State.{every, holderOk, sized}
 use Rattle.answers.specs.Codes.{Test, test}
 use Rattle.answers.specs.Outcome.{Act, outcome}
@@ -36,15 +36,15 @@ openTests T n b l = test (not (sized (T .accounts) (T .counters) (T .pays))) Sta
 
 -- the balances from place 0 on, the lines from 64 on, and 0 elsewhere
 abbrev pub accountOpened : ℕ → List ℤ → List ℤ → ℕ → ℤ
-accountOpened n b l k = cond (ltb k n) (entry b k) (cond (leb 64 k && ltb (k - 64) n) (entry l (k - 64)) (pos 0))
+accountOpened n b l k = cond (ltb k n) (entry b k) (cond (leb linesAt k && ltb (k - linesAt) n) (entry l (k - linesAt)) (pos 0))
 
 -- the count, and nothing accepted, settled or waiting
 abbrev pub counterOpened : ℕ → ℕ → ℕ
-counterOpened n k = cond (eqb k 0) n 0
+counterOpened n k = cond (eqb k membersAt) n 0
 
 -- no payment waits
 unfoldable pub openedIn : Tables → ℕ → List ℤ → List ℤ → Tables
-openedIn T n b l = tables (fill 512 (accountOpened n b l) (T .accounts)) (fill 512 (counterOpened n) (T .counters)) (fill 2048 (λ k. 0) (T .pays))
+openedIn T n b l = tables (fill table (accountOpened n b l) (T .accounts)) (fill table (counterOpened n) (T .counters)) (fill places (λ k. 0) (T .pays))
 
 -- ---- the call, on any tables: it asks for no state
 

@@ -1,5 +1,6 @@
 // Opening a house: judging what it opens with, and filling the tables.
 use answers::Judged;
+use answers::Opened;
 use answers::Refusal;
 use tables::House;
 use tables::look::holder_ok;
@@ -10,13 +11,39 @@ ghost use mathlib.Core.Path.{_≡_};
 ghost use Prim.Native.Nat.{_≤_};
 ghost use lib.ListN.{length};
 ghost use Rattle.rule.specs.Lists.{fill};
+ghost use Rattle.tables.specs.Sizes.{members, places, table};
 ghost use Rattle.tables.specs.Layout.{tables};
-ghost use Rattle.answers.specs.Codes.{first};
 ghost use Rattle.tables.specs.State.{every};
-ghost use Rattle.opening.specs.Open.{opensAt, isOpening, openTests, accountOpened, counterOpened};
+ghost use Rattle.answers.specs.Codes.{first};
+ghost use Rattle.answers.specs.Outcome.{outcome, held};
+ghost use Rattle.opening.specs.Open.{opensAt, isOpening, openTests, accountOpened, counterOpened, openAct};
+
+// Opens a house of `count` members on lent tables, whatever they held.
+pub fn open(
+    accounts: &mut [i64],
+    counters: &mut [u32],
+    pays: &mut [u64],
+    count: u64,
+    balances: &[i64],
+    lines: &[i64],
+) -> Opened
+    ensures { λ r. ⌜ outcome r (tables (now (accounts .exit)) (now (counters .exit)) (now (pays .exit))) ≡ held (openAct count (now (balances .entry)) (now (lines .entry))) (tables (now (accounts .entry)) (now (counters .entry)) (now (pays .entry))) ⌝ }
+{
+    let j = judge(accounts, counters, pays, count, balances, lines);
+    match j {
+        Judged::Bad(r) => Opened::Refused(r),
+        Judged::Fine => {
+            let n = count as usize;
+            fill_accounts(accounts, n, balances, lines);
+            fill_counters(counters, n);
+            fill_pays(pays);
+            Opened::Done(total(balances, n))
+        }
+    }
+}
 
 // Codes 1 and 11.
-pub fn judge(
+fn judge(
     accounts: &[i64],
     counters: &[u32],
     pays: &[u64],
@@ -79,10 +106,10 @@ fn holders_ok(balances: &[i64], lines: &[i64]) -> bool
 }
 
 // The balances and the lines, and 0 elsewhere.
-pub fn fill_accounts(accounts: &mut [i64], n: usize, balances: &[i64], lines: &[i64])
-    requires { ⌜ 512 ≤ length (now accounts) ⌝ }
-    requires { ⌜ (n ≤ 64) × (length (now balances) ≡ n) × (length (now lines) ≡ n) ⌝ }
-    ensures { λ _. ⌜ now (accounts .exit) ≡ fill 512 (accountOpened n (now (balances .entry)) (now (lines .entry))) (now (accounts .entry)) ⌝ }
+fn fill_accounts(accounts: &mut [i64], n: usize, balances: &[i64], lines: &[i64])
+    requires { ⌜ table ≤ length (now accounts) ⌝ }
+    requires { ⌜ (n ≤ members) × (length (now balances) ≡ n) × (length (now lines) ≡ n) ⌝ }
+    ensures { λ _. ⌜ now (accounts .exit) ≡ fill table (accountOpened n (now (balances .entry)) (now (lines .entry))) (now (accounts .entry)) ⌝ }
 {
     let mut k = 0;
     while k < House::TABLE {
@@ -92,16 +119,16 @@ pub fn fill_accounts(accounts: &mut [i64], n: usize, balances: &[i64], lines: &[
 }
 
 fn account_at(n: usize, balances: &[i64], lines: &[i64], k: usize) -> i64
-    requires { ⌜ (n ≤ 64) × (length (now balances) ≡ n) × (length (now lines) ≡ n) ⌝ }
+    requires { ⌜ (n ≤ members) × (length (now balances) ≡ n) × (length (now lines) ≡ n) ⌝ }
     ensures { λ r. ⌜ r ≡ accountOpened n (now (balances .entry)) (now (lines .entry)) k ⌝ }
 {
     if k < n {
         return balances[k];
     }
-    if k < 64 {
+    if k < House::LINES_AT {
         return 0;
     }
-    let i = k - 64;
+    let i = k - House::LINES_AT;
     if i < n {
         return lines[i];
     }
@@ -109,9 +136,9 @@ fn account_at(n: usize, balances: &[i64], lines: &[i64], k: usize) -> i64
 }
 
 // The count, and 0 elsewhere.
-pub fn fill_counters(counters: &mut [u32], n: usize)
-    requires { ⌜ (512 ≤ length (now counters)) × (n ≤ 64) ⌝ }
-    ensures { λ _. ⌜ now (counters .exit) ≡ fill 512 (counterOpened n) (now (counters .entry)) ⌝ }
+fn fill_counters(counters: &mut [u32], n: usize)
+    requires { ⌜ (table ≤ length (now counters)) × (n ≤ members) ⌝ }
+    ensures { λ _. ⌜ now (counters .exit) ≡ fill table (counterOpened n) (now (counters .entry)) ⌝ }
 {
     let mut k = 0;
     while k < House::TABLE {
@@ -121,9 +148,9 @@ pub fn fill_counters(counters: &mut [u32], n: usize)
 }
 
 // No payment waits.
-pub fn fill_pays(pays: &mut [u64])
-    requires { ⌜ 2048 ≤ length (now pays) ⌝ }
-    ensures { λ _. ⌜ now (pays .exit) ≡ fill 2048 (λ k. 0) (now (pays .entry)) ⌝ }
+fn fill_pays(pays: &mut [u64])
+    requires { ⌜ places ≤ length (now pays) ⌝ }
+    ensures { λ _. ⌜ now (pays .exit) ≡ fill places (λ k. 0) (now (pays .entry)) ⌝ }
 {
     let mut k = 0;
     while k < House::PLACES {

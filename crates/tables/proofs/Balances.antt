@@ -15,7 +15,7 @@ use mir.Val.{SFits}
 use Rattle.rule.specs.Ints.{up, down}
 use Rattle.rule.specs.House.{money}
 use Rattle.rule.proofs.Ints.{ints, plus, leZ-true, ≤ℤ-is}
-use Rattle.tables.specs.Sizes.{members, limit, most, highest}
+use Rattle.tables.specs.Sizes.{members, most, highest, mostLine, table}
 use Rattle.tables.specs.Layout.{balanceOf, lineOf, moneyOf}
 use Rattle.tables.specs.Holds.{Accounts}
 use Rattle.tables.specs.State.{every, isZero, holderOk, accountAt}
@@ -34,10 +34,10 @@ near-of m (negsuc n) u d = record { above = omega arith; below = omega arith }
 pub near-holder : (b l : ℤ) → holderOk b l ≡ true → Near highest b
 near-holder b l e =
     let e1 = and-both (leZ (pos 0) l) _ e in
-    let e2 = and-both (leZ l (pos limit)) _ (e1 .1) in
+    let e2 = and-both (leZ l (pos mostLine)) _ (e1 .1) in
     let e3 = and-both (leZ b (pos highest)) (leZ (pos 0) (b +ℤ l)) (e2 .1) in
     let t1 = leZ-true (pos 0) l (e1 .0) in
-    let t2 = leZ-true l (pos limit) (e2 .0) in
+    let t2 = leZ-true l (pos mostLine) (e2 .0) in
     let t3 = leZ-true b (pos highest) (e3 .0) in
     let t4 = leZ-true (pos 0) (b +ℤ l) (e3 .1) in
     near-of highest b (omega (arith, plus b l)) (omega (arith, plus b l))
@@ -54,7 +54,7 @@ near-account true b l e = near-holder b l e
 near-account false b l e = near-zero b (and-both (isZero b) (isZero l) e .0)
 
 -- where each account is in order, no balance is further from zero than the highest
-pub seats-bounded : (n : ℕ) (a : List ℤ) → 512 ≤ length a → every (accountAt n a) members ≡ true → Bounded members a
+pub seats-bounded : (n : ℕ) (a : List ℤ) → table ≤ length a → every (accountAt n a) members ≡ true → Bounded members a
 seats-bounded n a h e = record { few = omega arith; long = omega arith; near = λ i q. near-account (ltb i n) (balanceOf a i) (lineOf a i) (every-at (accountAt n a) members i e q) }
 
 -- ---- and so are their sums
@@ -94,28 +94,28 @@ low-of m (negsuc n) h = omega arith
 
 module _ {n : ℕ} {a : List ℤ} (h : Accounts n a) where
   -- no balance of what holds document 01's list is below minus the highest line,
-  pub accounts-low : (i : ℕ) → i < 64 → down (balanceOf a i) ≤ limit
+  pub accounts-low : (i : ℕ) → i < members → down (balanceOf a i) ≤ mostLine
   accounts-low i q = elim (decLt i n) [
     | yes l ↦
         let o = h .holders i l in
         let t1 = ≤ℤ-is (pos 0) (lineOf a i) (o .line) in
-        let t2 = ≤ℤ-is (lineOf a i) (pos limit) (o .small) in
+        let t2 = ≤ℤ-is (lineOf a i) (pos mostLine) (o .small) in
         let t3 = ≤ℤ-is (pos 0) (balanceOf a i +ℤ lineOf a i) (o .cover) in
-        low-of limit (balanceOf a i) (omega (arith, plus (balanceOf a i) (lineOf a i)))
+        low-of mostLine (balanceOf a i) (omega (arith, plus (balanceOf a i) (lineOf a i)))
     | no l ↦ rw (h .no-balance i (omega arith) q) (omega arith)
   ]
 
   -- and each is near zero
-  pub accounts-near : (i : ℕ) → i < 64 → Near highest (balanceOf a i)
+  pub accounts-near : (i : ℕ) → i < members → Near highest (balanceOf a i)
   accounts-near i q =
       let t1 = ≤ℤ-is (moneyOf a) (pos most) (h .sum) in
       let t2 = accounts-low i q in
-      near-of highest (balanceOf a i) (omega (arith, balance-high limit (balanceOf a) members i q accounts-low)) (omega arith)
+      near-of highest (balanceOf a i) (omega (arith, balance-high mostLine (balanceOf a) members i q accounts-low)) (omega arith)
 
   -- so that no sum of them wraps,
-  pub accounts-bounded : Bounded 64 a
+  pub accounts-bounded : Bounded members a
   accounts-bounded = record { few = omega arith; long = omega (arith, h .long); near = accounts-near }
 
   -- and the sum of all fits an i64
   pub money-fits : SFits w64 (moneyOf a)
-  money-fits = sum-fits accounts-bounded 64 (omega arith)
+  money-fits = sum-fits accounts-bounded members (omega arith)

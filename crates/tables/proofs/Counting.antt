@@ -12,6 +12,7 @@ use lib.Seq.{drop-cons, getD-take, length-take-le, getD-set-same, getD-set-other
 use borrow.Author.Tests.{eq-eqb, ne-eqb}
 use Rattle.rule.specs.Payment.{payerOf}
 use Rattle.rule.specs.Table.{queueOf}
+use Rattle.tables.specs.Sizes.{members}
 
 drop-turn : (n : ℕ) (p : List ℕ) (i : ℕ) → i < n → n ≤ length p → drop i (take n p) ≡ getD p i 0 ∷ drop (i + 1) (take n p)
 drop-turn n p i h k =
@@ -28,7 +29,7 @@ queue-other : (i w : ℕ) (l : List ℕ) → (payerOf w ≡ i → ⊥) → queue
 queue-other i w l h = rw (ne-eqb (payerOf w) i h)
 
 -- a payer is one of 64
-pub payer-few : (w : ℕ) → payerOf w < 64
+pub payer-few : (w : ℕ) → payerOf w < members
 unfolding payerOf
 payer-few w = omega arith
 
@@ -44,12 +45,12 @@ queue-short i (w ∷ l) = go (eqb (payerOf w) i) (queue-short i l)
 -- before place i of the first n, z has counted each queue but for what stands at i and later
 pub record Counted (n : ℕ) (p : List ℕ) (i : ℕ) (z : List ℕ) : Type 0 where
   pub within : i ≤ n
-  pub wide : length z ≡ 64
-  pub done : (k : ℕ) → k < 64 → getD z k 0 + length (queueOf k (drop i (take n p))) ≡ length (queueOf k (take n p))
+  pub wide : length z ≡ members
+  pub done : (k : ℕ) → k < members → getD z k 0 + length (queueOf k (drop i (take n p))) ≡ length (queueOf k (take n p))
 
 module _ (n : ℕ) (p : List ℕ) (long : n ≤ length p) (i : ℕ) (z : List ℕ) (inv : Counted n p i z) where
   -- no count is above n,
-  pub counted-room : (k : ℕ) → k < 64 → getD z k 0 ≤ n
+  pub counted-room : (k : ℕ) → k < members → getD z k 0 ≤ n
   counted-room k h = omega (arith, inv .done k h, queue-short k (take n p), length-take n p)
 
   -- the next payment adds one to its payer's,
@@ -59,7 +60,7 @@ module _ (n : ℕ) (p : List ℕ) (long : n ≤ length p) (i : ℕ) (z : List �
       turn : (j : ℕ) → queueOf j (drop i (take n p)) ≡ queueOf j (getD p i 0 ∷ drop (i + 1) (take n p))
       turn j = ap (queueOf j) (drop-turn n p i h long)
 
-      go : (k : ℕ) → k < 64 → Dec (payerOf (getD p i 0) ≡ k)
+      go : (k : ℕ) → k < members → Dec (payerOf (getD p i 0) ≡ k)
           → getD (set z (payerOf (getD p i 0)) (getD z (payerOf (getD p i 0)) 0 + 1)) k 0 + length (queueOf k (drop (i + 1) (take n p)))
           ≡ length (queueOf k (take n p))
       go k q (yes e) =
@@ -76,5 +77,5 @@ module _ (n : ℕ) (p : List ℕ) (long : n ≤ length p) (i : ℕ) (z : List �
           omega (arith, inv .done k q)
 
   -- and at the end each is its queue's length
-  pub counted-end : n ≤ i → (k : ℕ) → k < 64 → getD z k 0 ≡ length (queueOf k (take n p))
+  pub counted-end : n ≤ i → (k : ℕ) → k < members → getD z k 0 ≡ length (queueOf k (take n p))
   counted-end h k q = omega (arith, inv .done k q, ap (λ (l : List ℕ). length (queueOf k l)) (drop-end n p i h))

@@ -19,7 +19,8 @@ use Rattle.rule.specs.Table.{queueOf, Payers}
 use Rattle.rule.proofs.Ints.{eq-of, nonneg-is}
 use Rattle.rule.proofs.Sums.{sum-cong}
 use Rattle.rule.proofs.Table.{by-payers}
-use Rattle.tables.specs.Layout.{Tables, membersIn, waitingIn, wordsIn, houseIn, lastOf, settledOf, lineOf}
+use Rattle.tables.specs.Sizes.{members, places}
+use Rattle.tables.specs.Layout.{Tables, membersIn, waitingIn, wordsIn, houseIn, lineOf, waitsOf}
 use Rattle.tables.specs.Holds.{Payment, Holds}
 use Rattle.tables.proofs.Counting.{queue-short}
 
@@ -49,7 +50,7 @@ total-one (w ∷ ws) = omega (arith, total-one ws)
 
 module _ {T : Tables} (h : Holds T) where
   -- a line is never below zero
-  pub line-is : (i : ℕ) → i < 64 → lineOf (T .accounts) i ≡ pos (houseIn T .line i)
+  pub line-is : (i : ℕ) → i < members → lineOf (T .accounts) i ≡ pos (houseIn T .line i)
   line-is i q = elim (decLt i (membersIn T)) [
     | yes l ↦ eq-of (lineOf (T .accounts) i) (pos (up (lineOf (T .accounts) i))) (omega (arith, nonneg-is (lineOf (T .accounts) i) (h .accounts .holders i l .line)))
     | no l ↦ let e = h .accounts .no-line i (omega arith) q in rw e
@@ -88,7 +89,7 @@ module _ {T : Tables} (h : Holds T) where
   no-queue i l = queue-none (membersIn T) i (wordsIn T) l holds-payers
 
   -- of each member wait those that were accepted and not settled
-  pub waits-is : (i : ℕ) → i < 64 → waits (houseIn T) i ≡ lastOf (T .counters) i - settledOf (T .counters) i
+  pub waits-is : (i : ℕ) → i < members → waits (houseIn T) i ≡ waitsOf (T .counters) i
   waits-is i q = omega (arith, h .numbers .each i q)
 
   -- all queues together are what waits
@@ -100,5 +101,5 @@ module _ {T : Tables} (h : Holds T) where
       ∙ waiting-long
 
   -- and none of them is longer than the table
-  pub few-wait : (i : ℕ) → waits (houseIn T) i ≤ 2048
+  pub few-wait : (i : ℕ) → waits (houseIn T) i ≤ places
   few-wait i = omega (arith, queue-short i (wordsIn T), waiting-long, h .counters .room)

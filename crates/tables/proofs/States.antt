@@ -14,8 +14,8 @@ use borrow.Author.Tests.{lt-ltb, le-ltb, le-leb, eq-eqb, ne-eqb, ltb-true, leb-t
 use Rattle.rule.proofs.Ints.{true-leZ}
 use Rattle.rule.specs.Payment.{payerOf, payeeOf, amountOf, flagsOf}
 use Rattle.rule.specs.Table.{queueOf}
-use Rattle.tables.specs.Sizes.{members, places, table, limit, most, highest}
-use Rattle.tables.specs.Layout.{Tables, membersIn, waitingIn, countOf, waitingOf, lastOf, settledOf, balanceOf, lineOf, moneyOf, wordsOf}
+use Rattle.tables.specs.Sizes.{members, places, table, most, highest, mostAmount, mostLine}
+use Rattle.tables.specs.Layout.{Tables, membersIn, waitingIn, countOf, waitingOf, lastOf, settledOf, balanceOf, lineOf, moneyOf, wordsOf, spareAccounts, spareAccountsAt, spareCounters, spareCountersAt, spareSingles, spareSinglesAt}
 use Rattle.tables.specs.Holds.{Holder, Payment, Counters, Accounts, Places, Numbers, Holds}
 use Rattle.tables.specs.State.{every, isZero, holderOk, accountAt, spareAt, accountsOk, zeroAt, countersOk, wordOk, placeAt, placesOk, queueAt, queuesOk, sized, isState}
 use Rattle.tables.proofs.Tests.{and-both, and-of, le-true, true-le, zero-true, true-zero}
@@ -28,9 +28,9 @@ use Rattle.tables.proofs.Balances.{accounts-near}
 pub holder-is : (b l : ℤ) → holderOk b l ≡ true → Holder b l
 holder-is b l e =
     let e1 = and-both (leZ (pos 0) l) _ e in
-    let e2 = and-both (leZ l (pos limit)) _ (e1 .1) in
+    let e2 = and-both (leZ l (pos mostLine)) _ (e1 .1) in
     let e3 = and-both (leZ b (pos highest)) (leZ (pos 0) (b +ℤ l)) (e2 .1) in
-    record { line = le-true (pos 0) l (e1 .0); small = le-true l (pos limit) (e2 .0); cover = le-true (pos 0) (b +ℤ l) (e3 .1) }
+    record { line = le-true (pos 0) l (e1 .0); small = le-true l (pos mostLine) (e2 .0); cover = le-true (pos 0) (b +ℤ l) (e3 .1) }
 
 payment-is : (n w : ℕ) → wordOk n w ≡ true → Payment n w
 payment-is n w e =
@@ -38,14 +38,14 @@ payment-is n w e =
     let e2 = and-both (ltb (payeeOf w) n) _ (e1 .1) in
     let e3 = and-both (not (eqb (payerOf w) (payeeOf w))) _ (e2 .1) in
     let e4 = and-both (eqb (flagsOf w) 0) _ (e3 .1) in
-    let e5 = and-both (leb 1 (amountOf w)) (leb (amountOf w) limit) (e4 .1) in
+    let e5 = and-both (leb 1 (amountOf w)) (leb (amountOf w) mostAmount) (e4 .1) in
     record {
       payer = ltb-true (payerOf w) n (e1 .0);
       payee = ltb-true (payeeOf w) n (e2 .0);
       other = eqb-false (payerOf w) (payeeOf w) (not-true (eqb (payerOf w) (payeeOf w)) (e3 .0));
       plain = eqb-true (flagsOf w) 0 (e4 .0);
       some = leb-true 1 (amountOf w) (e5 .0);
-      small = leb-true (amountOf w) limit (e5 .1);
+      small = leb-true (amountOf w) mostAmount (e5 .1);
     }
 
 pub counters-are : (c : List ℕ) → leb table (length c) ≡ true → countersOk c ≡ true → Counters c
@@ -54,37 +54,37 @@ counters-are c l e =
     let e1 = and-both (leb 1 (countOf c)) _ e in
     let e2 = and-both (leb (countOf c) members) _ (e1 .1) in
     let e3 = and-both (leb (waitingOf c) places) _ (e2 .1) in
-    let e4 = and-both (every (zeroAt c 2) 62) (every (zeroAt c 192) 320) (e3 .1) in
+    let e4 = and-both (every (zeroAt c spareSinglesAt) spareSingles) (every (zeroAt c spareCountersAt) spareCounters) (e3 .1) in
     record {
-      broad = leb-true 512 (length c) l;
+      broad = leb-true table (length c) l;
       one = leb-true 1 (countOf c) (e1 .0);
-      few = leb-true (countOf c) 64 (e2 .0);
-      room = leb-true (waitingOf c) 2048 (e3 .0);
-      spare = λ j h. eqb-true (getD c (2 + j) 0) 0 (every-at (zeroAt c 2) 62 j (e4 .0) h);
-      later = λ j h. eqb-true (getD c (192 + j) 0) 0 (every-at (zeroAt c 192) 320 j (e4 .1) h);
+      few = leb-true (countOf c) members (e2 .0);
+      room = leb-true (waitingOf c) places (e3 .0);
+      spare = λ j h. eqb-true (getD c (spareSinglesAt + j) 0) 0 (every-at (zeroAt c spareSinglesAt) spareSingles j (e4 .0) h);
+      later = λ j h. eqb-true (getD c (spareCountersAt + j) 0) 0 (every-at (zeroAt c spareCountersAt) spareCounters j (e4 .1) h);
     }
 
-accounts-are : (n : ℕ) (a : List ℤ) → n ≤ 64 → leb table (length a) ≡ true → accountsOk n a ≡ true → Accounts n a
+accounts-are : (n : ℕ) (a : List ℤ) → n ≤ members → leb table (length a) ≡ true → accountsOk n a ≡ true → Accounts n a
 unfolding accountsOk
 accounts-are n a few l e =
     let a1 = and-both (every (accountAt n a) members) _ e in
-    let a2 = and-both (every (spareAt a) 384) (leZ (moneyOf a) (pos most)) (a1 .1) in
+    let a2 = and-both (every (spareAt a) spareAccounts) (leZ (moneyOf a) (pos most)) (a1 .1) in
     record {
-      long = leb-true 512 (length a) l;
+      long = leb-true table (length a) l;
       holders = λ i h. holder-is (balanceOf a i) (lineOf a i) (rw (lt-ltb i n h) at (every-at (accountAt n a) members i (a1 .0) (omega arith)));
       sum = le-true (moneyOf a) (pos most) (a2 .1);
       no-balance = λ i l h. zero-true (balanceOf a i) (unused i (rw (le-ltb i n l) at (every-at (accountAt n a) members i (a1 .0) h)) .0);
       no-line = λ i l h. zero-true (lineOf a i) (unused i (rw (le-ltb i n l) at (every-at (accountAt n a) members i (a1 .0) h)) .1);
-      spare = λ j h. zero-true (getD a (128 + j) (pos 0)) (every-at (spareAt a) 384 j (a2 .0) h);
+      spare = λ j h. zero-true (getD a (spareAccountsAt + j) (pos 0)) (every-at (spareAt a) spareAccounts j (a2 .0) h);
     }
   where
     unused : (i : ℕ) → (isZero (balanceOf a i) && isZero (lineOf a i)) ≡ true → (isZero (balanceOf a i) ≡ true) × (isZero (lineOf a i) ≡ true)
     unused i = and-both (isZero (balanceOf a i)) (isZero (lineOf a i))
 
-places-are : (n w : ℕ) (p : List ℕ) → w ≤ 2048 → leb places (length p) ≡ true → placesOk n w p ≡ true → Places n w p
+places-are : (n w : ℕ) (p : List ℕ) → w ≤ places → leb places (length p) ≡ true → placesOk n w p ≡ true → Places n w p
 unfolding placesOk
 places-are n w p room l e = record {
-  deep = leb-true 2048 (length p) l;
+  deep = leb-true places (length p) l;
   words = λ j h. payment-is n (getD p j 0) (rw (lt-ltb j w h) at (every-at (placeAt n w p) places j e (omega arith)));
   no-payment = λ j l h. eqb-true (getD p j 0) 0 (rw (le-ltb j w l) at (every-at (placeAt n w p) places j e h));
 }
@@ -120,7 +120,7 @@ state-holds {T} e =
 -- ---- what holds the list is a state
 
 holder-of : (b l : ℤ) → leZ b (pos highest) ≡ true → Holder b l → holderOk b l ≡ true
-holder-of b l e h = and-of (true-le (pos 0) l (h .line)) (and-of (true-le l (pos limit) (h .small)) (and-of e (true-le (pos 0) (b +ℤ l) (h .cover))))
+holder-of b l e h = and-of (true-le (pos 0) l (h .line)) (and-of (true-le l (pos mostLine) (h .small)) (and-of e (true-le (pos 0) (b +ℤ l) (h .cover))))
 
 payment-of : (n w : ℕ) → Payment n w → wordOk n w ≡ true
 payment-of n w h = rw (
@@ -129,15 +129,15 @@ payment-of n w h = rw (
   ne-eqb (payerOf w) (payeeOf w) (h .other),
   eq-eqb (flagsOf w) 0 (h .plain),
   le-leb 1 (amountOf w) (h .some),
-  le-leb (amountOf w) limit (h .small),
+  le-leb (amountOf w) mostAmount (h .small),
 )
 
 -- each list in order passes its test
 module _ {n : ℕ} {a : List ℤ} (h : Accounts n a) where
-  high : (i : ℕ) → i < 64 → leZ (balanceOf a i) (pos highest) ≡ true
+  high : (i : ℕ) → i < members → leZ (balanceOf a i) (pos highest) ≡ true
   high i q = let n = accounts-near h i q in true-leZ (balanceOf a i) (pos highest) (omega arith)
 
-  account : (i : ℕ) → i < 64 → accountAt n a i ≡ true
+  account : (i : ℕ) → i < members → accountAt n a i ≡ true
   account i q = elim (decLt i n) [
     | yes l ↦ rw (lt-ltb i n l) (holder-of (balanceOf a i) (lineOf a i) (high i q) (h .holders i l))
     | no l ↦ rw (le-ltb i n (omega arith)) (and-of (true-zero (h .no-balance i (omega arith) q)) (true-zero (h .no-line i (omega arith) q)))
@@ -145,18 +145,18 @@ module _ {n : ℕ} {a : List ℤ} (h : Accounts n a) where
 
   accounts-of : accountsOk n a ≡ true
   unfolding accountsOk
-  accounts-of = and-of (every-of (accountAt n a) 64 account) (and-of (every-of (spareAt a) 384 (λ k q. true-zero (h .spare k q))) (true-le (moneyOf a) (pos most) (h .sum)))
+  accounts-of = and-of (every-of (accountAt n a) members account) (and-of (every-of (spareAt a) spareAccounts (λ k q. true-zero (h .spare k q))) (true-le (moneyOf a) (pos most) (h .sum)))
 
 places-of : {n w : ℕ} {p : List ℕ} → Places n w p → placesOk n w p ≡ true
 unfolding placesOk
-places-of {n} {w} {p} h = every-of (placeAt n w p) 2048 (λ k q. elim (decLt k w) [
+places-of {n} {w} {p} h = every-of (placeAt n w p) places (λ k q. elim (decLt k w) [
   | yes l ↦ rw (lt-ltb k w l) (payment-of n (getD p k 0) (h .words k l))
   | no l ↦ rw (le-ltb k w (omega arith)) (eq-eqb (getD p k 0) 0 (h .no-payment k (omega arith) q))
 ])
 
 numbers-of : {c p : List ℕ} → Numbers c p → queuesOk c p ≡ true
 unfolding queuesOk
-numbers-of {c} {p} h = every-of (queueAt c p) 64 (λ i q. and-of (eq-eqb (settledOf c i + length (queueOf i (wordsOf c p))) (lastOf c i) (h .each i q)) (elim (decLt i (countOf c)) [
+numbers-of {c} {p} h = every-of (queueAt c p) members (λ i q. and-of (eq-eqb (settledOf c i + length (queueOf i (wordsOf c p))) (lastOf c i) (h .each i q)) (elim (decLt i (countOf c)) [
   | yes l ↦ rw (lt-ltb i (countOf c) l)
   | no l ↦ rw (le-ltb i (countOf c) (omega arith)) (eq-eqb (lastOf c i) 0 (h .no-number i (omega arith) q))
 ]))
@@ -165,15 +165,15 @@ counters-of : {c : List ℕ} → Counters c → countersOk c ≡ true
 unfolding countersOk
 counters-of {c} h = rw (
   le-leb 1 (countOf c) (h .one),
-  le-leb (countOf c) 64 (h .few),
-  le-leb (waitingOf c) 2048 (h .room),
-  every-of (zeroAt c 2) 62 (λ k q. eq-eqb (getD c (2 + k) 0) 0 (h .spare k q)),
-  every-of (zeroAt c 192) 320 (λ k q. eq-eqb (getD c (192 + k) 0) 0 (h .later k q)),
+  le-leb (countOf c) members (h .few),
+  le-leb (waitingOf c) places (h .room),
+  every-of (zeroAt c spareSinglesAt) spareSingles (λ k q. eq-eqb (getD c (spareSinglesAt + k) 0) 0 (h .spare k q)),
+  every-of (zeroAt c spareCountersAt) spareCounters (λ k q. eq-eqb (getD c (spareCountersAt + k) 0) 0 (h .later k q)),
 )
 
 -- lent tables that hold document 01's list pass the test
 pub holds-state : {T : Tables} → Holds T → isState T ≡ true
 unfolding isState
 holds-state {T} h =
-    and-of (and-of (le-leb 512 (length (T .accounts)) (h .accounts .long)) (and-of (le-leb 512 (length (T .counters)) (h .counters .broad)) (le-leb 2048 (length (T .pays)) (h .places .deep))))
+    and-of (and-of (le-leb table (length (T .accounts)) (h .accounts .long)) (and-of (le-leb table (length (T .counters)) (h .counters .broad)) (le-leb places (length (T .pays)) (h .places .deep))))
     (and-of (counters-of (h .counters)) (and-of (accounts-of (h .accounts)) (and-of (places-of (h .places)) (numbers-of (h .numbers)))))

@@ -6,7 +6,7 @@ use lib.ListN.{getD, take}
 use Rattle.rule.specs.Ints.{up}
 use Rattle.rule.specs.House.{House, money}
 use Rattle.rule.specs.Table.{queueOf}
-use Rattle.tables.specs.Sizes.{members}
+use Rattle.tables.specs.Sizes.{members, table}
 
 -- ---- where the blocks begin, one entry for each of 64 members
 
@@ -17,7 +17,23 @@ linesAt = members
 abbrev pub spareAccountsAt : ℕ
 spareAccountsAt = 2 * members
 
--- the counters: how many members and how many payments wait, then last accepted numbers, then how many were settled; the rest is spare
+abbrev pub spareAccounts : ℕ
+spareAccounts = table - spareAccountsAt
+
+-- the counters: single ones first, how many members and how many payments wait; the rest of that block is spare
+abbrev pub membersAt : ℕ
+membersAt = 0
+
+abbrev pub waitingAt : ℕ
+waitingAt = 1
+
+abbrev pub spareSinglesAt : ℕ
+spareSinglesAt = 2
+
+abbrev pub spareSingles : ℕ
+spareSingles = members - spareSinglesAt
+
+-- then last accepted numbers, then how many were settled; the rest is spare
 abbrev pub lastsAt : ℕ
 lastsAt = members
 
@@ -27,23 +43,26 @@ settledAt = 2 * members
 abbrev pub spareCountersAt : ℕ
 spareCountersAt = 3 * members
 
+abbrev pub spareCounters : ℕ
+spareCounters = table - spareCountersAt
+
 -- ---- what stands there
 
 -- how many members the house has
 abbrev pub countOf : List ℕ → ℕ
-countOf c = getD c 0 0
+countOf c = getD c membersAt 0
 
 -- how many payments wait
 abbrev pub waitingOf : List ℕ → ℕ
-waitingOf c = getD c 1 0
+waitingOf c = getD c waitingAt 0
 
 -- the last number that was accepted of member i
 abbrev pub lastOf : List ℕ → ℕ → ℕ
-lastOf c i = getD c (64 + i) 0
+lastOf c i = getD c (lastsAt + i) 0
 
 -- how many payments of member i were settled
 abbrev pub settledOf : List ℕ → ℕ → ℕ
-settledOf c i = getD c (128 + i) 0
+settledOf c i = getD c (settledAt + i) 0
 
 -- how many payments of member i wait
 abbrev pub waitsOf : List ℕ → ℕ → ℕ
@@ -53,7 +72,7 @@ abbrev pub balanceOf : List ℤ → ℕ → ℤ
 balanceOf a i = getD a i (pos 0)
 
 abbrev pub lineOf : List ℤ → ℕ → ℤ
-lineOf a i = getD a (64 + i) (pos 0)
+lineOf a i = getD a (linesAt + i) (pos 0)
 
 -- the waiting payments
 abbrev pub wordsOf : List ℕ → List ℕ → List ℕ

@@ -4,7 +4,7 @@ use Prim.Native.Nat.{ℕ, _≤_, _<_}
 use lib.IntN.{ℤ}
 use lib.ListN.{length}
 use Rattle.rule.specs.Ints.{up, down}
-use Rattle.tables.specs.Sizes.{highest}
+use Rattle.tables.specs.Sizes.{highest, members}
 use Rattle.tables.specs.Layout.{balanceOf}
 
 -- z is at most m from zero
@@ -14,6 +14,6 @@ pub record Near (m : ℕ) (z : ℤ) : Type 0 where
 
 -- of the first n balances, at most 64, none is further from zero than the highest, so that none of their sums can wrap
 pub record Bounded (n : ℕ) (a : List ℤ) : Type 0 where
-  pub few : n ≤ 64
+  pub few : n ≤ members
   pub long : n ≤ length a
   pub near : (i : ℕ) → i < n → Near highest (balanceOf a i)

@@ -26,10 +26,6 @@ mostAmount = 1_000_000_000_000
 abbrev pub mostLine : ℕ
 mostLine = 1_000_000_000_000
 
--- an amount, a deposit and a line are at most this
-abbrev pub limit : ℕ
-limit = 1_000_000_000_000
-
 -- the sum of all balances is at most this
 abbrev pub most : ℕ
 most = 1_000_000_000_000_000

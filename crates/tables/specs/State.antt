@@ -8,8 +8,8 @@ use lib.Signed.{leZ}
 use lib.ListN.{length, getD}
 use Rattle.rule.specs.Payment.{payerOf, payeeOf, amountOf, flagsOf}
 use Rattle.rule.specs.Table.{queueOf}
-use Rattle.tables.specs.Sizes.{members, places, table, limit, most, highest}
-use Rattle.tables.specs.Layout.{Tables, membersIn, waitingIn, countOf, waitingOf, lastOf, settledOf, balanceOf, lineOf, moneyOf, wordsOf}
+use Rattle.tables.specs.Sizes.{members, places, table, most, highest, mostAmount, mostLine}
+use Rattle.tables.specs.Layout.{Tables, membersIn, waitingIn, countOf, waitingOf, lastOf, settledOf, balanceOf, lineOf, moneyOf, wordsOf, spareAccounts, spareAccountsAt, spareCounters, spareCountersAt, spareSingles, spareSinglesAt}
 
 -- f holds of each number below n
 unfoldable pub every : (ℕ → Bool) → ℕ → Bool
@@ -21,10 +21,10 @@ every f (suc n) = every f n && f n
 abbrev pub isZero : ℤ → Bool
 isZero z = leZ z (pos 0) && leZ (pos 0) z
 
--- a member's line is 0 to the limit, and its balance at least minus the line. That the balance is at most the highest is no rule of
+-- a member's line is 0 to the most, and its balance at least minus the line. That the balance is at most the highest is no rule of
 -- its own: it follows from the others and the sum of all.
 abbrev pub holderOk : ℤ → ℤ → Bool
-holderOk b l = leZ (pos 0) l && (leZ l (pos limit) && (leZ b (pos highest) && leZ (pos 0) (b +ℤ l)))
+holderOk b l = leZ (pos 0) l && (leZ l (pos mostLine) && (leZ b (pos highest) && leZ (pos 0) (b +ℤ l)))
 
 -- an unused account is 0
 abbrev pub accountOk : ℕ → ℕ → ℤ → ℤ → Bool
@@ -35,10 +35,10 @@ accountAt n a i = accountOk n i (balanceOf a i) (lineOf a i)
 
 -- the spare blocks are 0
 abbrev pub spareAt : List ℤ → ℕ → Bool
-spareAt a k = isZero (getD a (128 + k) (pos 0))
+spareAt a k = isZero (getD a (spareAccountsAt + k) (pos 0))
 
 unfoldable pub accountsOk : ℕ → List ℤ → Bool
-accountsOk n a = every (accountAt n a) members && (every (spareAt a) 384 && leZ (moneyOf a) (pos most))
+accountsOk n a = every (accountAt n a) members && (every (spareAt a) spareAccounts && leZ (moneyOf a) (pos most))
 
 -- ---- counters
 
@@ -50,15 +50,15 @@ zeroAt c from k = eqb (getD c (from + k) 0) 0
 unfoldable pub countersOk : List ℕ → Bool
 countersOk c =
     leb 1 (countOf c)
-    && (leb (countOf c) members && (leb (waitingOf c) places && (every (zeroAt c 2) 62 && every (zeroAt c 192) 320)))
+    && (leb (countOf c) members && (leb (waitingOf c) places && (every (zeroAt c spareSinglesAt) spareSingles && every (zeroAt c spareCountersAt) spareCounters)))
 
 -- ---- places
 
--- the word of a payment of 1 to the limit between two of the n members
+-- the word of a payment of 1 to the most between two of the n members
 abbrev pub wordOk : ℕ → ℕ → Bool
 wordOk n w =
     ltb (payerOf w) n
-    && (ltb (payeeOf w) n && (not (eqb (payerOf w) (payeeOf w)) && (eqb (flagsOf w) 0 && (leb 1 (amountOf w) && leb (amountOf w) limit))))
+    && (ltb (payeeOf w) n && (not (eqb (payerOf w) (payeeOf w)) && (eqb (flagsOf w) 0 && (leb 1 (amountOf w) && leb (amountOf w) mostAmount))))
 
 -- the waiting ones stand first, without a gap, and every later place is 0
 abbrev pub placeOk : ℕ → ℕ → ℕ → ℕ → Bool

@@ -9,7 +9,8 @@ ghost use Prim.Native.Nat.{ℕ, _+_, _<_, _≤_};
 ghost use lib.ListN.{length, getD, take};
 ghost use Rattle.rule.specs.House.{money};
 ghost use Rattle.rule.specs.Table.{queueOf};
-ghost use Rattle.tables.specs.Layout.{tables, waitingOf, lastOf, settledOf, waitsOf, balanceOf};
+ghost use Rattle.tables.specs.Sizes.{members, places, table};
+ghost use Rattle.tables.specs.Layout.{tables, waitingOf, lastOf, settledOf, waitsOf, balanceOf, spareAccounts};
 ghost use Rattle.tables.specs.State.{every, wordOk, isZero, holderOk, accountOk, accountAt, spareAt, accountsOk, zeroAt, countersOk, placeOk, placesOk, queueOk, queuesOk, isState};
 ghost use Rattle.tables.specs.Needs.{Bounded};
 
@@ -29,8 +30,8 @@ pub fn is_state(accounts: &[i64], counters: &[u32], pays: &[u64]) -> bool
     if !counters_ok(counters) {
         return false;
     }
-    let count = wide(counters[0]);
-    let waiting = wide(counters[1]);
+    let count = wide(counters[House::MEMBERS_AT]);
+    let waiting = wide(counters[House::WAITING_AT]);
     if !accounts_ok(accounts, count) {
         return false;
     }
@@ -58,7 +59,7 @@ pub fn total(balances: &[i64], n: usize) -> i64
 
 // The accounts of n members are in order, and so is the sum of balances.
 fn accounts_ok(accounts: &[i64], n: usize) -> bool
-    requires { ⌜ 512 ≤ length (now accounts) ⌝ }
+    requires { ⌜ table ≤ length (now accounts) ⌝ }
     ensures { λ r. ⌜ r ≡ accountsOk n (now (accounts .entry)) ⌝ }
 {
     if !seats_ok(accounts, n) {
@@ -71,12 +72,12 @@ fn accounts_ok(accounts: &[i64], n: usize) -> bool
 }
 
 fn seats_ok(accounts: &[i64], n: usize) -> bool
-    requires { ⌜ 512 ≤ length (now accounts) ⌝ }
-    ensures { λ r. ⌜ r ≡ every (accountAt n (now (accounts .entry))) 64 ⌝ }
+    requires { ⌜ table ≤ length (now accounts) ⌝ }
+    ensures { λ r. ⌜ r ≡ every (accountAt n (now (accounts .entry))) members ⌝ }
 {
     let mut i = 0;
     while i < House::MEMBERS {
-        if !account_ok(n, i, accounts[i], accounts[64 + i]) {
+        if !account_ok(n, i, accounts[i], accounts[House::LINES_AT + i]) {
             return false;
         }
         i += 1;
@@ -85,12 +86,12 @@ fn seats_ok(accounts: &[i64], n: usize) -> bool
 }
 
 fn spare_ok(accounts: &[i64]) -> bool
-    requires { ⌜ 512 ≤ length (now accounts) ⌝ }
-    ensures { λ r. ⌜ r ≡ every (spareAt (now (accounts .entry))) 384 ⌝ }
+    requires { ⌜ table ≤ length (now accounts) ⌝ }
+    ensures { λ r. ⌜ r ≡ every (spareAt (now (accounts .entry))) spareAccounts ⌝ }
 {
     let mut k = 0;
-    while k < 384 {
-        if !is_zero(accounts[128 + k]) {
+    while k < House::SPARE_ACCOUNTS {
+        if !is_zero(accounts[House::SPARE_ACCOUNTS_AT + k]) {
             return false;
         }
         k += 1;
@@ -117,7 +118,7 @@ pub fn holder_ok(balance: i64, line: i64) -> bool
     if !at_most(0, line) {
         return false;
     }
-    if !at_most(line, signed(House::LIMIT)) {
+    if !at_most(line, signed(House::MOST_LINE)) {
         return false;
     }
     if !at_most(balance, signed(House::HIGHEST)) {
@@ -138,11 +139,11 @@ fn is_zero(z: i64) -> bool
 // ---- counters
 
 fn counters_ok(counters: &[u32]) -> bool
-    requires { ⌜ 512 ≤ length (now counters) ⌝ }
+    requires { ⌜ table ≤ length (now counters) ⌝ }
     ensures { λ r. ⌜ r ≡ countersOk (now (counters .entry)) ⌝ }
 {
-    let count = wide(counters[0]);
-    let waiting = wide(counters[1]);
+    let count = wide(counters[House::MEMBERS_AT]);
+    let waiting = wide(counters[House::WAITING_AT]);
     if count < 1 {
         return false;
     }
@@ -152,10 +153,10 @@ fn counters_ok(counters: &[u32]) -> bool
     if waiting > House::PLACES {
         return false;
     }
-    if !zeros(counters, 2, 62) {
+    if !zeros(counters, House::SPARE_SINGLES_AT, House::SPARE_SINGLES) {
         return false;
     }
-    zeros(counters, 192, 320)
+    zeros(counters, House::SPARE_COUNTERS_AT, House::SPARE_COUNTERS)
 }
 
 // From a place on n counters are 0.
@@ -176,7 +177,7 @@ fn zeros(counters: &[u32], from: usize, n: usize) -> bool
 // ---- places
 
 fn places_ok(pays: &[u64], n: usize, waiting: usize) -> bool
-    requires { ⌜ 2048 ≤ length (now pays) ⌝ }
+    requires { ⌜ places ≤ length (now pays) ⌝ }
     ensures { λ r. ⌜ r ≡ placesOk n waiting (now (pays .entry)) ⌝ }
 {
     let mut k = 0;
@@ -220,25 +221,25 @@ fn word_ok(n: usize, w: u64) -> bool
     if amount < 1 {
         return false;
     }
-    amount <= House::LIMIT
+    amount <= House::MOST_AMOUNT
 }
 
 // ---- queues
 
 // How many payments a member has waiting.
 pub fn waiting_of(counters: &[u32], seat: usize) -> u32
-    requires { ⌜ (512 ≤ length (now counters)) × (seat < 64) × (settledOf (now counters) seat ≤ lastOf (now counters) seat) ⌝ }
+    requires { ⌜ (table ≤ length (now counters)) × (seat < members) × (settledOf (now counters) seat ≤ lastOf (now counters) seat) ⌝ }
     ensures { λ r. ⌜ r ≡ waitsOf (now (counters .entry)) seat ⌝ }
 {
     counters[House::LASTS_AT + seat] - counters[House::SETTLED_AT + seat]
 }
 
 // How many payments each member has waiting among the first n places.
-pub fn count_waiting(pays: &[u64], n: usize) -> [u16; 64]
-    requires { ⌜ (n ≤ length (now pays)) × (n ≤ 2048) ⌝ }
-    ensures { λ r. ⌜ ((k : ℕ) → k < 64 → getD r k 0 ≡ length (queueOf k (take n (now (pays .entry))))) ⌝ }
+pub fn count_waiting(pays: &[u64], n: usize) -> [u16; House::MEMBERS]
+    requires { ⌜ (n ≤ length (now pays)) × (n ≤ places) ⌝ }
+    ensures { λ r. ⌜ ((k : ℕ) → k < members → getD r k 0 ≡ length (queueOf k (take n (now (pays .entry))))) ⌝ }
 {
-    let mut waits = [0u16; 64];
+    let mut waits = [0u16; House::MEMBERS];
     let mut i = 0;
     while i < n {
         let s = rule::payer_of(pays[i]);
@@ -249,14 +250,20 @@ pub fn count_waiting(pays: &[u64], n: usize) -> [u16; 64]
 }
 
 fn queues_ok(counters: &[u32], pays: &[u64]) -> bool
-    requires { ⌜ (512 ≤ length (now counters)) × (2048 ≤ length (now pays)) × (waitingOf (now counters) ≤ 2048) ⌝ }
+    requires { ⌜ (table ≤ length (now counters)) × (places ≤ length (now pays)) × (waitingOf (now counters) ≤ places) ⌝ }
     ensures { λ r. ⌜ r ≡ queuesOk (now (counters .entry)) (now (pays .entry)) ⌝ }
 {
-    let n = wide(counters[0]);
-    let waits = count_waiting(pays, wide(counters[1]));
+    let n = wide(counters[House::MEMBERS_AT]);
+    let waits = count_waiting(pays, wide(counters[House::WAITING_AT]));
     let mut i = 0;
     while i < House::MEMBERS {
-        if !queue_ok(n, i, waits[i], counters[64 + i], counters[128 + i]) {
+        if !queue_ok(
+            n,
+            i,
+            waits[i],
+            counters[House::LASTS_AT + i],
+            counters[House::SETTLED_AT + i],
+        ) {
             return false;
         }
         i += 1;

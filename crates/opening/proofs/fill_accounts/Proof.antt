@@ -3,16 +3,17 @@ use borrow.Author.Needs.{needs}
 use Prim.Native.Nat.{_-_}
 use native.Mathlib.Omega.{arith}
 use Rattle.rule.proofs.Ints.{plain}
+use Rattle.tables.specs.Sizes.{table}
 use Rattle.tables.proofs.Filling.{Filled, fill-start, fill-same, fill-more, fill-end}
 use Rattle.opening.specs.Open.{accountOpened}
 use Rattle.opening.proofs.fill_accounts.Statement.{statement}
 use Rattle.opening.proofs.fill_accounts.Tie as tie
 
 abbrev Inv-loop : tie.InvT-loop
-Inv-loop accounts₀ n balances lines k₀ accounts k = Filled (accountOpened n balances lines) 512 accounts₀ k accounts
+Inv-loop accounts₀ n balances lines k₀ accounts k = Filled (accountOpened n balances lines) table accounts₀ k accounts
 
 abbrev μ-loop : tie.MeasureT-loop
-μ-loop accounts₀ n balances lines k₀ accounts k = 512 - k
+μ-loop accounts₀ n balances lines k₀ accounts k = table - k
 
 loop-holds : tie.Need-loop-holds Inv-loop μ-loop
 loop-holds c = fill-start

@@ -4,16 +4,17 @@ use borrow.Author.Tests.{eq-eqb, ne-eqb}
 use mathlib.Core.Logic.{⊎-elim}
 use Prim.Native.Nat.{_-_}
 use native.Mathlib.Omega.{arith}
+use Rattle.tables.specs.Sizes.{table}
 use Rattle.tables.proofs.Filling.{Filled, fill-start, fill-same, fill-more, fill-end}
 use Rattle.opening.specs.Open.{counterOpened}
 use Rattle.opening.proofs.fill_counters.Statement.{statement}
 use Rattle.opening.proofs.fill_counters.Tie as tie
 
 abbrev Inv-loop : tie.InvT-loop
-Inv-loop counters₀ n k₀ counters k = Filled (counterOpened n) 512 counters₀ k counters
+Inv-loop counters₀ n k₀ counters k = Filled (counterOpened n) table counters₀ k counters
 
 abbrev μ-loop : tie.MeasureT-loop
-μ-loop counters₀ n k₀ counters k = 512 - k
+μ-loop counters₀ n k₀ counters k = table - k
 
 loop-holds : tie.Need-loop-holds Inv-loop μ-loop
 loop-holds c = fill-start

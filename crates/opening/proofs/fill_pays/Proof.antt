@@ -3,15 +3,16 @@ use borrow.Author.Needs.{needs}
 use mathlib.Core.Path.{refl}
 use Prim.Native.Nat.{_-_}
 use native.Mathlib.Omega.{arith}
+use Rattle.tables.specs.Sizes.{places}
 use Rattle.tables.proofs.Filling.{Filled, fill-start, fill-same, fill-more, fill-end}
 use Rattle.opening.proofs.fill_pays.Statement.{statement}
 use Rattle.opening.proofs.fill_pays.Tie as tie
 
 abbrev Inv-loop : tie.InvT-loop
-Inv-loop pays₀ k₀ pays k = Filled (λ j. 0) 2048 pays₀ k pays
+Inv-loop pays₀ k₀ pays k = Filled (λ j. 0) places pays₀ k pays
 
 abbrev μ-loop : tie.MeasureT-loop
-μ-loop pays₀ k₀ pays k = 2048 - k
+μ-loop pays₀ k₀ pays k = places - k
 
 loop-holds : tie.Need-loop-holds Inv-loop μ-loop
 loop-holds c = fill-start

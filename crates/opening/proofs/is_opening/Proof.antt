@@ -12,7 +12,7 @@ use Rattle.rule.specs.House.{money}
 use Rattle.tables.proofs.Balances.{near-holder}
 use Rattle.tables.proofs.Every.{every-at}
 use Rattle.tables.proofs.Tests.{flag-no, flag-yes}
-use Rattle.tables.specs.Sizes.{most}
+use Rattle.tables.specs.Sizes.{most, members}
 use Rattle.tables.specs.State.{every}
 use Rattle.opening.specs.Open.{entry, opensAt, isOpening}
 use Rattle.opening.proofs.is_opening.Statement.{statement}
@@ -26,23 +26,23 @@ left c =
     let n = s .args .count in
     let b : length (s .args .balances .now) ≡ s .args .count = omega arith in
     let l : length (s .args .lines .now) ≡ s .args .count = omega arith in
-    rw (le-leb 1 n (omega arith), le-leb n 64 (omega arith), eq-eqb (length (s .args .balances .now)) n b, eq-eqb (length (s .args .lines .now)) n l, b)
+    rw (le-leb 1 n (omega arith), le-leb n members (omega arith), eq-eqb (length (s .args .balances .now)) n b, eq-eqb (length (s .args .lines .now)) n l, b)
 
 returns : tie.Need-returns
 returns c = rw (lt-leb 1 (c .before .args .count) (omega arith))
 
 returns-2 : tie.Need-returns-2
-returns-2 c = rw (le-leb 1 (c .before .before .args .count) (omega arith), lt-leb (c .before .before .args .count) 64 (omega arith))
+returns-2 c = rw (le-leb 1 (c .before .before .args .count) (omega arith), lt-leb (c .before .before .args .count) members (omega arith))
 
 returns-3 : tie.Need-returns-3
 returns-3 c =
     let s = c .before .before .before in
-    rw (le-leb 1 (s .args .count) (omega arith), le-leb (s .args .count) 64 (omega arith), ne-eqb (length (s .args .balances .now)) (s .args .count) (c .if3 .taken))
+    rw (le-leb 1 (s .args .count) (omega arith), le-leb (s .args .count) members (omega arith), ne-eqb (length (s .args .balances .now)) (s .args .count) (c .if3 .taken))
 
 returns-4 : tie.Need-returns-4
 returns-4 c =
     let s = c .before .before .before .before in
-    rw (le-leb 1 (s .args .count) (omega arith), le-leb (s .args .count) 64 (omega arith), eq-eqb (length (s .args .balances .now)) (s .args .count) (c .before .if3 .left), ne-eqb (length (s .args .lines .now)) (s .args .count) (c .if4 .taken))
+    rw (le-leb 1 (s .args .count) (omega arith), le-leb (s .args .count) members (omega arith), eq-eqb (length (s .args .balances .now)) (s .args .count) (c .before .if3 .left), ne-eqb (length (s .args .lines .now)) (s .args .count) (c .if4 .taken))
 
 holders-ok-requires : tie.Need-holders-ok-requires
 holders-ok-requires c κs = search needs

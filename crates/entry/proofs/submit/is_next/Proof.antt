@@ -6,7 +6,7 @@ use mathlib.Core.Path.{_≡_}
 use Prim.Native.Nat.{_+_, _-_}
 use native.Mathlib.Omega.{arith}
 use lib.Dec.{eqb}
-use Rattle.tables.specs.Layout.{lastOf}
+use Rattle.tables.specs.Layout.{lastOf, lastsAt}
 use Rattle.entry.proofs.submit.is_next.Statement.{statement}
 use Rattle.entry.proofs.submit.is_next.Tie as tie
 
@@ -29,7 +29,7 @@ wide-requires : tie.Need-wide-requires
 wide-requires c κs = search needs
 
 add-if1 : tie.Need-add-if1
-add-if1 c = let u = read c in omega (arith, c .before .shared-slice-known2 .given (64 + (c .before .before .before .args .payer - 1)))
+add-if1 c = let u = read c in omega (arith, c .before .shared-slice-known2 .given (lastsAt + (c .before .before .before .args .payer - 1)))
 
 returns : tie.Need-returns
 returns c =

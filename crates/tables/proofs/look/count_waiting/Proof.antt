@@ -4,6 +4,7 @@ use mathlib.Core.Path.{refl}
 use Prim.Native.Nat.{ℕ, _<_, _-_}
 use native.Mathlib.Omega.{arith}
 use lib.ListN.{getD, getD-replicate}
+use Rattle.tables.specs.Sizes.{members}
 use Rattle.tables.proofs.Counting.{Counted, counted-room, counted-again, counted-end, payer-few}
 use Rattle.tables.proofs.look.count_waiting.Statement.{statement}
 use Rattle.tables.proofs.look.count_waiting.Tie as tie
@@ -15,7 +16,7 @@ abbrev μ-loop : tie.MeasureT-loop
 μ-loop pays n waits₀ i₀ waits i = n - i
 
 loop-holds : tie.Need-loop-holds Inv-loop μ-loop
-loop-holds c = record { within = omega arith; wide = refl; done = λ k h. omega (arith, getD-replicate {A = ℕ} 64 k 0 0 h) }
+loop-holds c = record { within = omega arith; wide = refl; done = λ k h. omega (arith, getD-replicate {A = ℕ} members k 0 0 h) }
 
 mul-payer-of : tie.Need-mul-payer-of Inv-loop μ-loop
 mul-payer-of c = search needs
@@ -26,7 +27,7 @@ shared-slice-read-payer-of c = search needs
 payer-of-requires : tie.Need-payer-of-requires Inv-loop μ-loop
 payer-of-requires c κs = search needs
 
-seat : (c : tie.After-payer-of Inv-loop μ-loop) → c .payer-of .result < 64
+seat : (c : tie.After-payer-of Inv-loop μ-loop) → c .payer-of .result < members
 seat c = omega (arith, payer-few (getD (c .before .before .before .before .before .args .pays .now) (c .before .before .before .loop .i) 0))
 
 mul-waits : tie.Need-mul-waits Inv-loop μ-loop

@@ -5,6 +5,7 @@ use mathlib.Core.Path.{_≡_}
 use mathlib.Core.Bool.{true}
 use native.Mathlib.Omega.{arith}
 use lib.Dec.{leb}
+use Rattle.tables.specs.Sizes.{members, places}
 use Rattle.tables.proofs.Tests.{flag-no, flag-yes}
 use Rattle.tables.specs.Layout.{countOf, waitingOf}
 use Rattle.tables.specs.State.{countersOk}
@@ -26,11 +27,11 @@ wide-requires-2 c κs = search needs
 one : (c : tie.Else1) → leb 1 (countOf (c .before .before .before .before .before .before .args .counters .now)) ≡ true
 one c = le-leb 1 (countOf (c .before .before .before .before .before .before .args .counters .now)) (omega arith)
 
-few : (c : tie.Else2) → leb (countOf (c .before .before .before .before .before .before .before .args .counters .now)) 64 ≡ true
-few c = le-leb (countOf (c .before .before .before .before .before .before .before .args .counters .now)) 64 (omega arith)
+few : (c : tie.Else2) → leb (countOf (c .before .before .before .before .before .before .before .args .counters .now)) members ≡ true
+few c = le-leb (countOf (c .before .before .before .before .before .before .before .args .counters .now)) members (omega arith)
 
-room : (c : tie.Else3) → leb (waitingOf (c .before .before .before .before .before .before .before .before .args .counters .now)) 2048 ≡ true
-room c = le-leb (waitingOf (c .before .before .before .before .before .before .before .before .args .counters .now)) 2048 (omega arith)
+room : (c : tie.Else3) → leb (waitingOf (c .before .before .before .before .before .before .before .before .args .counters .now)) places ≡ true
+room c = le-leb (waitingOf (c .before .before .before .before .before .before .before .before .args .counters .now)) places (omega arith)
 
 returns : tie.Need-returns
 unfolding countersOk
@@ -38,11 +39,11 @@ returns c = rw (lt-leb 1 (countOf (c .before .before .before .before .before .be
 
 returns-2 : tie.Need-returns-2
 unfolding countersOk
-returns-2 c = rw (one (c .before), lt-leb (countOf (c .before .before .before .before .before .before .before .args .counters .now)) 64 (omega arith))
+returns-2 c = rw (one (c .before), lt-leb (countOf (c .before .before .before .before .before .before .before .args .counters .now)) members (omega arith))
 
 returns-3 : tie.Need-returns-3
 unfolding countersOk
-returns-3 c = rw (one (c .before .before), few (c .before), lt-leb (waitingOf (c .before .before .before .before .before .before .before .before .args .counters .now)) 2048 (omega arith))
+returns-3 c = rw (one (c .before .before), few (c .before), lt-leb (waitingOf (c .before .before .before .before .before .before .before .before .args .counters .now)) places (omega arith))
 
 zeros-requires : tie.Need-zeros-requires
 zeros-requires c κs = search needs

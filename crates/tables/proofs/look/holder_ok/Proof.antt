@@ -8,14 +8,14 @@ use mir.Syntax.{w64}
 use mir.Val.{SFits}
 use Rattle.rule.proofs.Ints.{ints, plus, plain}
 use Rattle.tables.proofs.Tests.{flag-no, flag-yes}
-use Rattle.tables.specs.Sizes.{limit, highest}
+use Rattle.tables.specs.Sizes.{highest, mostLine}
 use Rattle.tables.proofs.look.holder_ok.Statement.{statement}
 use Rattle.tables.proofs.look.holder_ok.Tie as tie
 
 line-up : (c : tie.Else1) → leZ (pos 0) (c .before .before .args .line) ≡ true
 line-up c = let g = c .before .before .fits .line in simp plain at (flag-yes (c .before .at-most .ensures) (c .if1 .left))
 
-line-small : (c : tie.Else2) → leZ (c .before .before .before .before .before .args .line) (pos limit) ≡ true
+line-small : (c : tie.Else2) → leZ (c .before .before .before .before .before .args .line) (pos mostLine) ≡ true
 line-small c = let g = c .before .before .before .before .before .fits .line in simp (plain, c .before .before .signed .ensures) at (flag-yes (c .before .at-most2 .ensures) (c .if2 .left))
 
 balance-small : (c : tie.Else3) → leZ (c .before .before .before .before .before .before .before .before .args .balance) (pos highest) ≡ true
@@ -49,7 +49,7 @@ at-most-requires-2 c κs = search needs
 returns-2 : tie.Need-returns-2
 returns-2 c =
     let g = c .before .before .before .before .before .fits .line in
-    let e : leZ (c .before .before .before .before .before .args .line) (pos limit) ≡ false = simp (plain, c .before .before .signed .ensures) at (flag-no (c .before .at-most2 .ensures) (c .if2 .taken)) in
+    let e : leZ (c .before .before .before .before .before .args .line) (pos mostLine) ≡ false = simp (plain, c .before .before .signed .ensures) at (flag-no (c .before .at-most2 .ensures) (c .if2 .taken)) in
     rw (line-up (c .before .before .before), e)
 
 signed-requires-2 : tie.Need-signed-requires-2

@@ -6,6 +6,7 @@ use mathlib.Core.Bool.{true, false}
 use native.Mathlib.Omega.{arith}
 use lib.Dec.{leb}
 use lib.ListN.{length}
+use Rattle.tables.specs.Sizes.{places, table}
 use Rattle.tables.proofs.States.{counters-are}
 use Rattle.tables.proofs.Tests.{flag-no, flag-yes}
 use Rattle.tables.specs.Layout.{countOf, waitingOf}
@@ -13,14 +14,14 @@ use Rattle.tables.specs.State.{accountsOk, countersOk, placesOk, isState
 use Rattle.tables.proofs.look.is_state.Statement.{statement}
 use Rattle.tables.proofs.look.is_state.Tie as tie
 
-long : (c : tie.Else1) → leb 512 (length (c .before .before .before .args .accounts .now)) ≡ true
-long c = le-leb 512 (length (c .before .before .before .args .accounts .now)) (omega arith)
+long : (c : tie.Else1) → leb table (length (c .before .before .before .args .accounts .now)) ≡ true
+long c = le-leb table (length (c .before .before .before .args .accounts .now)) (omega arith)
 
-broad : (c : tie.Else2) → leb 512 (length (c .before .before .before .before .args .counters .now)) ≡ true
-broad c = le-leb 512 (length (c .before .before .before .before .args .counters .now)) (omega arith)
+broad : (c : tie.Else2) → leb table (length (c .before .before .before .before .args .counters .now)) ≡ true
+broad c = le-leb table (length (c .before .before .before .before .args .counters .now)) (omega arith)
 
 fit : (c : tie.Else3) → sized (c .before .before .before .before .before .args .accounts .now) (c .before .before .before .before .before .args .counters .now) (c .before .before .before .before .before .args .pays .now) ≡ true
-fit c = rw (long (c .before .before), broad (c .before)) (le-leb 2048 (length (c .before .before .before .before .before .args .pays .now)) (omega arith))
+fit c = rw (long (c .before .before), broad (c .before)) (le-leb places (length (c .before .before .before .before .before .args .pays .now)) (omega arith))
 
 counted : (c : tie.Else4) → countersOk (c .before .before .before .before .before .before .before .args .counters .now) ≡ true
 counted c = flag-yes (c .before .counters-ok .ensures) (c .if4 .left)
@@ -33,15 +34,15 @@ placed c = rw (c .before .before .before .before .before .before .wide .ensures,
 
 returns : tie.Need-returns
 unfolding isState
-returns c = rw (lt-leb 512 (length (c .before .before .before .args .accounts .now)) (omega arith))
+returns c = rw (lt-leb table (length (c .before .before .before .args .accounts .now)) (omega arith))
 
 returns-2 : tie.Need-returns-2
 unfolding isState
-returns-2 c = rw (long (c .before), lt-leb 512 (length (c .before .before .before .before .args .counters .now)) (omega arith))
+returns-2 c = rw (long (c .before), lt-leb table (length (c .before .before .before .before .args .counters .now)) (omega arith))
 
 returns-3 : tie.Need-returns-3
 unfolding isState
-returns-3 c = rw (long (c .before .before), broad (c .before), lt-leb 2048 (length (c .before .before .before .before .before .args .pays .now)) (omega arith))
+returns-3 c = rw (long (c .before .before), broad (c .before), lt-leb places (length (c .before .before .before .before .before .args .pays .now)) (omega arith))
 
 counters-ok-requires : tie.Need-counters-ok-requires
 counters-ok-requires c κs = search needs

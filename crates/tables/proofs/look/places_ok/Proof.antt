@@ -2,6 +2,7 @@
 use borrow.Author.Needs.{needs}
 use Prim.Native.Nat.{_-_}
 use native.Mathlib.Omega.{arith}
+use Rattle.tables.specs.Sizes.{places}
 use Rattle.tables.proofs.Every.{Passed, every-start, every-more, every-fail, every-end}
 use Rattle.tables.proofs.Tests.{flag-no, flag-yes}
 use Rattle.tables.specs.State.{placeAt, placesOk}
@@ -9,10 +10,10 @@ use Rattle.tables.proofs.look.places_ok.Statement.{statement}
 use Rattle.tables.proofs.look.places_ok.Tie as tie
 
 abbrev Inv-loop : tie.InvT-loop
-Inv-loop pays n waiting k₀ k = Passed (placeAt n waiting pays) 2048 k
+Inv-loop pays n waiting k₀ k = Passed (placeAt n waiting pays) places k
 
 abbrev μ-loop : tie.MeasureT-loop
-μ-loop pays n waiting k₀ k = 2048 - k
+μ-loop pays n waiting k₀ k = places - k
 
 loop-holds : tie.Need-loop-holds Inv-loop μ-loop
 loop-holds c = every-start

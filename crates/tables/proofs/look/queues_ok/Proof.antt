@@ -3,6 +3,7 @@ use borrow.Author.Needs.{needs}
 use mathlib.Core.Path.{_≡_}
 use Prim.Native.Nat.{_-_}
 use native.Mathlib.Omega.{arith}
+use Rattle.tables.specs.Sizes.{members}
 use Rattle.tables.proofs.Every.{Passed, every-start, every-more, every-fail, every-end}
 use Rattle.tables.proofs.Tests.{flag-no, flag-yes}
 use Rattle.tables.specs.State.{queueAt, queuesOk}
@@ -10,10 +11,10 @@ use Rattle.tables.proofs.look.queues_ok.Statement.{statement}
 use Rattle.tables.proofs.look.queues_ok.Tie as tie
 
 abbrev Inv-loop : tie.InvT-loop
-Inv-loop counters pays n waits i₀ i = Passed (queueAt counters pays) 64 i
+Inv-loop counters pays n waits i₀ i = Passed (queueAt counters pays) members i
 
 abbrev μ-loop : tie.MeasureT-loop
-μ-loop counters pays n waits i₀ i = 64 - i
+μ-loop counters pays n waits i₀ i = members - i
 
 shared-slice-read-wide : tie.Need-shared-slice-read-wide Inv-loop μ-loop
 shared-slice-read-wide c = search needs

@@ -4,6 +4,7 @@ use mathlib.Core.Path.{_≡_}
 use Prim.Native.Nat.{_-_}
 use native.Mathlib.Omega.{arith}
 use Rattle.rule.proofs.Ints.{plain}
+use Rattle.tables.specs.Sizes.{members}
 use Rattle.tables.proofs.Every.{Passed, every-start, every-more, every-fail, every-end}
 use Rattle.tables.proofs.Tests.{flag-no, flag-yes}
 use Rattle.tables.specs.State.{accountAt}
@@ -11,10 +12,10 @@ use Rattle.tables.proofs.look.seats_ok.Statement.{statement}
 use Rattle.tables.proofs.look.seats_ok.Tie as tie
 
 abbrev Inv-loop : tie.InvT-loop
-Inv-loop accounts n i₀ i = Passed (accountAt n accounts) 64 i
+Inv-loop accounts n i₀ i = Passed (accountAt n accounts) members i
 
 abbrev μ-loop : tie.MeasureT-loop
-μ-loop accounts n i₀ i = 64 - i
+μ-loop accounts n i₀ i = members - i
 
 loop-holds : tie.Need-loop-holds Inv-loop μ-loop
 loop-holds c = every-start

@@ -4,6 +4,7 @@ use mathlib.Core.Path.{_≡_}
 use Prim.Native.Nat.{_-_}
 use native.Mathlib.Omega.{arith}
 use Rattle.rule.proofs.Ints.{plain}
+use Rattle.tables.specs.Layout.{spareAccounts}
 use Rattle.tables.proofs.Every.{Passed, every-start, every-more, every-fail, every-end}
 use Rattle.tables.proofs.Tests.{flag-no, flag-yes}
 use Rattle.tables.specs.State.{spareAt}
@@ -11,10 +12,10 @@ use Rattle.tables.proofs.look.spare_ok.Statement.{statement}
 use Rattle.tables.proofs.look.spare_ok.Tie as tie
 
 abbrev Inv-loop : tie.InvT-loop
-Inv-loop accounts k₀ k = Passed (spareAt accounts) 384 k
+Inv-loop accounts k₀ k = Passed (spareAt accounts) spareAccounts k
 
 abbrev μ-loop : tie.MeasureT-loop
-μ-loop accounts k₀ k = 384 - k
+μ-loop accounts k₀ k = spareAccounts - k
 
 loop-holds : tie.Need-loop-holds Inv-loop μ-loop
 loop-holds c = every-start

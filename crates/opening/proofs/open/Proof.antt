@@ -1,4 +1,4 @@
--- `house::open` meets its contract: no loop; a judgement that found nothing gives what filling the tables and the sum ask.
+-- `opening::open` meets its contract: no loop; a judgement that found nothing gives what filling the tables and the sum ask.
 use borrow.Author.Needs.{needs}
 use mathlib.Core.Path.{_≡_, sym, ap₂, _∙_}
 use native.Mathlib.Omega.{arith}
@@ -8,23 +8,32 @@ use Rattle.tables.specs.Layout.{Tables, tables}
 use Rattle.tables.proofs.Same.{tables-same}
 use Rattle.tables.proofs.Balances.{near-holder}
 use Rattle.answers.specs.Codes.{first}
-use Rattle.answers.specs.Outcome.{outcome}
+use Rattle.answers.specs.Outcome.{Act, outcome}
 use Rattle.answers.proofs.Outcomes.{held-fine, held-bad}
 use Rattle.answers.specs.declared.Judged.the-variants.{Fine}
+use Rattle.answers.specs.declared.Opened.{Opened}
 use Rattle.answers.specs.declared.Opened.the-variants.{Done}
 use Rattle.opening.specs.Open.{entry, openedIn, openAct}
 use Rattle.opening.proofs.Judging.{Opens, open-fine}
-use Rattle.house.proofs.open.Statement.{statement}
-use Rattle.house.proofs.open.Tie as tie
+use Rattle.opening.proofs.open.Statement.{statement}
+use Rattle.opening.proofs.open.Tie as tie
 
 abbrev lent : tie.Start → Tables
 lent s = tables (s .args .accounts .now) (s .args .counters .now) (s .args .pays .now)
 
-fine : (c : tie.After-enum-told) → let s = c .before .before .before .before .before .before .before .before in first (openAct (s .args .count) (s .args .balances .now) (s .args .lines .now) .tests (lent s)) ≡ Fine
+-- where the tables are overwritten, the judgement found nothing,
+abbrev start : tie.After-enum-told → tie.Start
+start c = c .before .before .before .before .before .before .before .before
+
+abbrev act : tie.Start → Act Opened
+act s = openAct (s .args .count) (s .args .balances .now) (s .args .lines .now)
+
+fine : (c : tie.After-enum-told) → first (act (start c) .tests (lent (start c))) ≡ Fine
 unfolding openAct
 fine c = sym (c .before .before .judge .ensures) ∙ c .enum-told .given .1
 
-accepted : (c : tie.After-enum-told) → let s = c .before .before .before .before .before .before .before .before in Opens (lent s) (s .args .count) (s .args .balances .now) (s .args .lines .now)
+-- and its numbers are those of an opening
+accepted : (c : tie.After-enum-told) → Opens (lent (start c)) (start c .args .count) (start c .args .balances .now) (start c .args .lines .now)
 accepted c = open-fine (fine c)
 
 judge-requires : tie.Need-judge-requires
@@ -43,12 +52,14 @@ fill-counters-requires : tie.Need-fill-counters-requires
 fill-counters-requires c κs = let o = accepted (c .before .before .before .before) in (o .broad, o .opening .few)
 
 fill-pays-requires : tie.Need-fill-pays-requires
-fill-pays-requires c κs = accepted (c .before .before .before .before .before .before .before .before) .deep
+fill-pays-requires c κs = let d = c .before .before .before .before in accepted (d .before .before .before .before) .deep
 
 total-requires : tie.Need-total-requires
 total-requires c κs =
-    let o = accepted (c .before .before .before .before .before .before .before .before .before .before .before) .opening in
-    record { few = omega (arith, o .few); long = omega (arith, o .balances); near = λ i h. near-holder _ (entry (c .before .before .before .before .before .before .before .before .before .before .before .before .before .before .before .before .before .before .before .args .lines .now) i) (o .holders i h) }
+    let d = c .before .before .before .before .before in
+    let e = d .before .before .before .before .before .before in
+    let o = accepted e .opening in
+    record { few = omega (arith, o .few); long = omega (arith, o .balances); near = λ i h. near-holder _ (entry (start e .args .lines .now) i) (o .holders i h) }
 
 same-length : tie.Need-same-length
 same-length c = search needs
@@ -75,11 +86,14 @@ same-length-6 c = search needs
 returns-2 : tie.Need-returns-2
 unfolding openAct openedIn
 returns-2 c =
-    let s = c .before .before .before .before .before .before .before .before .before .before .before .before .before .before .before .before .before .before .before .before in
+    let p = c .before .before .before in
+    let q = p .before .before .before .before in
+    let f = q .before .before .before in
+    let d = f .before .before in
     let r = c .total .ok in
-    let e : c .total .result ≡ money (s .args .count) (entry (s .args .balances .now)) = c .total .ensures in
-    simp plain (ap₂ (λ x (W : Tables). outcome (Done x) W) e (tables-same (c .before .before .before .before .before .before .before .before .before .before .fill-accounts .ensures) (c .before .before .before .before .before .before .before .fill-counters .ensures) (c .before .before .before .fill-pays .ensures))
-    ∙ sym (held-fine (openAct (s .args .count) (s .args .balances .now) (s .args .lines .now)) (lent s) (fine (c .before .before .before .before .before .before .before .before .before .before .before .before))))
+    let e : c .total .result ≡ money (start d .args .count) (entry (start d .args .balances .now)) = c .total .ensures in
+    let w = tables-same (f .fill-accounts .ensures) (q .fill-counters .ensures) (p .fill-pays .ensures) in
+    simp plain (ap₂ (λ x (W : Tables). outcome (Done x) W) e w ∙ sym (held-fine (act (start d)) (lent (start d)) (fine d)))
 
 pub open-spec : {M : Type 1} → statement M
 open-spec =
