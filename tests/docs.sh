@@ -1,7 +1,7 @@
 #!/bin/sh
 # The documents tell the truth. About names: each law that docs/ cites, as `rule/Demands.largest-exists`, stands in that file, and each path
-# that the README or docs/ gives is there (those within a crate, as `specs/`, are of no one crate). About numbers: those of the house, where its tables stand and its codes, in the documents and in
-# the header, are the ones that the crates define. Ends in 'N passed, M failed'.
+# that the README or docs/ gives is there (those of any crate, as `specs/`, are not looked for). About numbers: those of the house, where its
+# tables stand and its codes, in the documents and in the header, are the ones that the crates define. Ends in 'N passed, M failed'.
 set -u
 cd "$(dirname "$0")/.." || exit 2
 passed=0 failed=0
@@ -35,6 +35,10 @@ constants() { # PREFIX FILE..
 }
 eval "$(constants house crates/tables/src/lib.rt)"
 eval "$(cat crates/*/src/*.rt | grep -E 'const (MOST_BYTES|MOST_DIGITS|MOST_LINES|LEAST_ROOM):' | constants text)"
+for name in house_MEMBERS house_PLACES house_TABLE house_BYTES house_MOST house_HIGHEST house_LAST_NUMBER \
+    text_MOST_BYTES text_MOST_DIGITS text_MOST_LINES text_LEAST_ROOM; do
+    eval "[ -n \"\${$name:-}\" ]" || { echo "docs: the crates have no number ${name#*_}"; echo "0 passed, 1 failed"; exit 1; }
+done
 amount=${house_MOST_AMOUNT:-${house_LIMIT:-}} line=${house_MOST_LINE:-${house_LIMIT:-}}
 
 # A number with its thousands parted by commas; a power of ten by its name.
