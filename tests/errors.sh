@@ -12,13 +12,14 @@ trap 'rm -rf "$work"' EXIT
 gcc -std=c99 -Wall -Wextra -Werror -O1 -shared -fPIC tests/errors/short.c -o "$work/short.so" || none "tests/errors/short.c does not build"
 passed=0 failed=0
 
-# A night whose sheet is some 90 KiB, and its sheet.
+# A night whose sheet is larger than what a pipe holds, and its sheet.
 {
     printf 'house\t1\t2\nmember\t1\t5\t0\nmember\t2\t0\t0\n'
     awk 'BEGIN { for (i = 1; i <= 3000; i++) printf "deposit\t1\t1000000000\npay\t1\t%d\t2\t7\nrelease\t1\n", i }'
     echo end
 } >"$work/day"
 "$sheet" <"$work/day" >"$work/sheet"
+[ "$(wc -c <"$work/sheet")" -gt 200000 ] || none "the sheet is too short for this test"
 
 # what NAME TEST..: counts whether it holds
 what() {
@@ -81,14 +82,22 @@ what "a slow reader with a full pipe" told 0 "$work/sheet" ""
 { "$sheet" <"$work/day" 2>"$work/said"; echo $? >"$work/status"; } | head -c 5000 >"$work/got"
 status=$(cat "$work/status")
 head -c 5000 "$work/sheet" >"$work/want"
-what "a pipe that closes ends it by its signal" told 141 "$work/want" ""
+# It is ended by the signal, unless whoever runs this test ignores that.
+closes() { told 141 "$work/want" "" >/dev/null || told 0 "$work/want" "nightsheet: cannot write"; }
+what "a pipe that closes" closes
 
 { (trap '' PIPE && exec "$sheet" <"$work/day" 2>"$work/said"); echo $? >"$work/status"; } | head -c 5000 >"$work/got"
 status=$(cat "$work/status")
 what "a pipe that closes, and the signal is ignored" told 0 "$work/want" "nightsheet: cannot write"
 
 # What is said of the lines so far stands there before more input is awaited.
-{ printf 'house\t1\t1\nmember\t1\t5\t0\nres'; sleep 1; cp "$work/got" "$work/early"; printf 'olve\nend\n'; } | "$sheet" >"$work/got" 2>"$work/said"
+rm -f "$work/got"
+{
+    printf 'house\t1\t1\nmember\t1\t5\t0\nres'
+    for _ in 1 2 3 4 5 6 7 8 9 10; do [ -s "$work/got" ] || sleep 1; done
+    cp "$work/got" "$work/early" || exit 1
+    printf 'olve\nend\n'
+} | "$sheet" >"$work/got" 2>"$work/said"
 status=$?
 printf '2\topen\t1\t5\n' >"$work/want"
 what "a line that waited for the next" cmp "$work/early" "$work/want"
