@@ -117,7 +117,8 @@ row accounts "| $house_TABLE |" "its line at $house_MEMBERS + i - 1" "from $((2 
 row counters "| $house_TABLE |" "at $house_MEMBERS + i - 1" "at $((2 * house_MEMBERS)) + i - 1" "from $((3 * house_MEMBERS)) on spare"
 row pays "| $(commas "$house_PLACES") |"
 
-# Every number with commas, and every power of ten, on these pages is one of the house's, or a word of TABLES.md's example.
+# Every number with commas, and every power of ten, on these pages is one of the house's, or a word of TABLES.md's example. Money, with its
+# cents behind a point, is not looked at.
 known=" $(power "$amount") $(power "$line") $(power "$house_MOST") "
 for n in "$house_BYTES" "$house_PLACES" $((house_PLACES + 1)) "$house_LAST_NUMBER" $((house_LAST_NUMBER + 1)) "$text_MOST_LINES" $((text_MOST_LINES + 1)) \
     "$counters" "$waiting_at" "$lasts_at" "$settled_at" "$places" $((places + 8)) $((places + 16)) 65535 65536 $((30 * 65536 + 1)) $((20 * 65536 + 64)); do
@@ -125,9 +126,18 @@ for n in "$house_BYTES" "$house_PLACES" $((house_PLACES + 1)) "$house_LAST_NUMBE
 done
 for page in README.md docs/DAYFILE.md docs/TABLES.md docs/BYTES.md docs/PROMISES.md docs/TRUST.md docs/CHANGING.md docs/FLOOR.md include/snarevapor.h; do
     [ -f "$page" ] || continue
-    for n in $(grep -oE '[0-9]{1,3}(,[0-9]{3})+|10\^[0-9]+' "$page" | sort -u); do
+    for n in $(sed 's/[0-9][0-9,]*\.[0-9][0-9]//g' "$page" | grep -oE '[0-9]{1,3}(,[0-9]{3})+|10\^[0-9]+' | sort -u); do
         case $known in *" $n "*) passed=$((passed + 1)) ;; *) failed=$((failed + 1)) && echo "docs: $page: $n is no number of the house" ;; esac
     done
+done
+
+# A host in C repeats none of them: it uses the header's names.
+repeats() { # NUMBER
+    ! grep -nE "(^|[^A-Za-z0-9_.,])$1([^0-9A-Za-z_]|\$)" host/*.c examples/*.c 2>/dev/null
+}
+for n in "$house_MEMBERS" "$house_PLACES" "$house_TABLE" "$house_BYTES" "$amount" "$house_MOST" "$house_HIGHEST" "$house_LAST_NUMBER" "$counters" "$waiting_at" \
+    "$lasts_at" "$settled_at" "$places"; do
+    check "a host has the number $n, which has a name in the header" repeats "$n"
 done
 echo "$passed passed, $failed failed"
 [ "$failed" -eq 0 ]
