@@ -133,7 +133,7 @@ done
 
 # A host in C repeats none of them: it uses the header's names.
 repeats() { # NUMBER
-    ! grep -nE "(^|[^A-Za-z0-9_.,])$1([^0-9A-Za-z_]|\$)" host/*.c examples/*.c 2>/dev/null
+    ! cat host/*.c host/*.h examples/*.c 2>/dev/null | grep -E "(^|[^A-Za-z0-9_.,])$1([^0-9A-Za-z_]|\$)"
 }
 for n in "$house_MEMBERS" "$house_PLACES" "$house_TABLE" "$house_BYTES" "$amount" "$house_MOST" "$house_HIGHEST" "$house_LAST_NUMBER" "$counters" "$waiting_at" \
     "$lasts_at" "$settled_at" "$places"; do
