@@ -1,6 +1,6 @@
 #!/usr/bin/env python3
-"""Header, example, host and docs/BYTES.md say the same: header.py ARCHIVE FOLDER. FOLDER gets the programs that it builds, and what they print.
-Ends in 'N passed, M failed'."""
+"""Header, example, host and docs/BYTES.md say the same: header.py ARCHIVE FOLDER. FOLDER gets the programs that it builds, and what they
+print. Ends in 'N passed, M failed'."""
 import glob, re, subprocess, sys
 
 ARCHIVE, FOLDER = sys.argv[1:3]
@@ -41,7 +41,7 @@ def commented(begin, end):
 
 # The header's comment shows examples/small.c, and what it prints.
 check(commented("This is examples/small.c:", " * Installed by") == read("examples/small.c"), "its comment does not show examples/small.c")
-check(commented("It prints", " * WHAT YOU OWE") == output("examples/small.c", "small"), "its comment does not show what examples/small.c prints")
+check(commented("It prints", " * WHAT YOU OWE") == output("examples/small.c", "small"), "its comment does not show what the example prints")
 
 # The header's numbers, by the compiler.
 names = re.findall(r"^#define (SNAREVAPOR_\w+) +\S", header, re.M)
@@ -55,7 +55,8 @@ said = dict(line.split(" ", 1) for line in output(f"{FOLDER}/names.c", "names").
 numbers = {name: int(said[name]) for name in names + codes}
 
 # Each code and each verdict has its own words, and nothing else has.
-for kind, stranger, last in [("word", "no code of this house", "SNAREVAPOR_OPENING"), ("verdict", "no verdict of this house", "SNAREVAPOR_DEADLOCKED")]:
+codes_end = [("word", "no code of this house", "SNAREVAPOR_OPENING"), ("verdict", "no verdict of this house", "SNAREVAPOR_DEADLOCKED")]
+for kind, stranger, last in codes_end:
     known = [said[f"{kind}-{code}"] for code in range(20) if said[f"{kind}-{code}"] != stranger]
     check(len(known) == len(set(known)) == numbers[last] + 1, f"{len(known)} {kind}s for {numbers[last] + 1}")
 
@@ -74,7 +75,8 @@ document = read("docs/BYTES.md")
 rows = dict(re.findall(r"^\| `(SNAREVAPOR_\w+)` \| ([\d,]+) \|", document, re.M))
 for name in names:
     if re.search(r"_AT$|_BYTES$|_ANSWER$|_UNIT$|_TABLES$", name):
-        check(rows.get(name, "").replace(",", "") == str(numbers[name]), f"docs/BYTES.md has {rows.get(name)} for {name}, which is {numbers[name]}")
+        there = rows.get(name, "none").replace(",", "")
+        check(there == str(numbers[name]), f"docs/BYTES.md has {there} for {name}, which is {numbers[name]}")
 for name in rows:
     check(name in numbers, f"docs/BYTES.md has {name}, and the header has not")
 
