@@ -8,17 +8,17 @@ use native.Mathlib.Decide.{ℕ-discrete, decLt}
 use native.Mathlib.Numerals.{add-one}
 use native.Mathlib.Omega.{arith}
 use lib.Dec.{ltb}
-use lib.IntN.{ℤ}
+use lib.IntN.{ℤ, pos}
 use lib.ListN.{length, getD, set, take, length-append, length-set, replicate, length-replicate, getD-replicate}
 use lib.Seq.{take-suc, length-take-le, getD-set-same, getD-set-other}
 use borrow.Author.Tests.{lt-ltb, le-ltb}
 use Rattle.rule.specs.Payment.{payerOf}
-use Rattle.rule.specs.House.{LargestSet}
+use Rattle.rule.specs.House.{position, LargestSet}
 use Rattle.rule.specs.Table.{queueOf, leaving, staying}
 use Rattle.rule.proofs.Table.{queue-leaving, leaving-snoc, staying-snoc}
 use Rattle.rule.proofs.Sums.{eqb-same, eqb-other}
-use Rattle.rule.proofs.Kernel.{holds-cong}
-use Rattle.rule.proofs.Cover.{covered-lawful}
+use Rattle.rule.proofs.Kernel.{largest-cong}
+use Rattle.rule.proofs.Cover.{covered-lawful, position-cong}
 use Rattle.finder.specs.Tops.{countsOf, Topped, CountsBelow}
 use Rattle.finder.specs.Resolve.{houseOf, Resolved}
 use Rattle.finder.proofs.Tops.{payer-under, queue-append, queue-own, queue-grows}
@@ -94,16 +94,14 @@ counted-end {pays} {tops} {counts} {used} t d = record {
       ∙ length-take-le (countsOf pays tops k) (queueOf k (take used pays)) (queue-grows pays used k (getD tops k 0) (t .within k l));
 }
 
--- so the list of counts is the largest set where the tops are
+-- so the list of counts is the largest set where the tops are,
 pub counted-largest : {n used : ℕ} {pays : List ℕ} {bs lines ys : List ℤ} {tops counts : List ℕ} → n ≤ 64 → Resolved n used pays bs lines ys tops → CountsBelow pays tops counts
     → LargestSet n (houseOf used pays bs lines) (λ i. getD counts i 0)
-counted-largest {n} {used} {pays} {bs} {lines} {tops} {counts} members r d = record {
-  allowed = record {
-    within = λ i h. rw (same i h) (r .largest .allowed .within i h);
-    holds = λ i h. holds-cong (covered-lawful n (houseOf used pays bs lines)) i (countsOf pays tops) (λ j. getD counts j 0) h (λ j k. sym (same j k)) (r .largest .allowed .holds i h);
-  };
-  top = λ y a i h. rw (same i h) (r .largest .top y a i h);
-}
-  where
-    same : (i : ℕ) → i < n → getD counts i 0 ≡ countsOf pays tops i
-    same i h = d .below i (omega arith)
+counted-largest {n} {used} {pays} {bs} {lines} {counts = counts} members r d =
+    largest-cong (covered-lawful n (houseOf used pays bs lines)) (λ i. getD counts i 0) (λ i h. sym (d .below i (omega arith))) (r .largest)
+
+-- and the positions are where it takes the balances
+pub counted-positions : {n used : ℕ} {pays : List ℕ} {bs lines ys : List ℤ} {tops counts : List ℕ} → n ≤ 64 → Resolved n used pays bs lines ys tops → CountsBelow pays tops counts
+    → (i : ℕ) → i < 64 → getD ys i (pos 0) ≡ position n (houseOf used pays bs lines) (λ j. getD counts j 0) i
+counted-positions {n} {used} {pays} {bs} {lines} {tops} {counts} members r d i h =
+    r .booked i h ∙ position-cong n (houseOf used pays bs lines) (countsOf pays tops) (λ j. getD counts j 0) i (sym (d .below i h)) (λ j k. sym (d .below j (omega arith)))

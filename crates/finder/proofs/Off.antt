@@ -22,7 +22,7 @@ use Rattle.rule.proofs.Find.{put-all, around-lower}
 use Rattle.finder.specs.Limits.{mostAmount}
 use Rattle.finder.specs.Tops.{countsOf, height, Linked}
 use Rattle.finder.specs.Finder.{Ranges, Stood, Ready, Short, Off, TakenOff}
-use Rattle.finder.proofs.Tops.{payee-under, one-less, last-stands}
+use Rattle.finder.proofs.Tops.{payee-under, one-less, last-stands, top-above}
 use Rattle.finder.proofs.Links.{linked-below}
 use Rattle.finder.proofs.Positions.{moved-at, moved-far}
 use Rattle.finder.proofs.Cover.{position-off}
@@ -34,14 +34,14 @@ module _ {n used : ℕ} {H : House} {pays : List ℕ} {xs lines : List ℤ} {ts 
   short-uncovered t c =
       let z = position n H (countsOf pays ts) i in
       let l = leeway H i in
-      let u : ltZ z (pos 0 -ℤ l) ≡ true = rw (st .stand i h, st .line i h) at t in
+      let u : ltZ z (pos 0 -ℤ l) ≡ true = rw (st .stand i (omega (arith, st .members)), st .line i h) at t in
       omega (ints, nonneg-is (z +ℤ l) (c .cover), plus z l, minus (pos 0) l)
 
   pub else-covered : Short xs lines i ≡ false → Covered n H i (countsOf pays ts)
   else-covered t =
       let z = position n H (countsOf pays ts) i in
       let l = leeway H i in
-      let u : ltZ z (pos 0 -ℤ l) ≡ false = rw (st .stand i h, st .line i h) at t in
+      let u : ltZ z (pos 0 -ℤ l) ≡ false = rw (st .stand i (omega (arith, st .members)), st .line i h) at t in
       record { cover = nonneg-of (z +ℤ l) (omega (ints, plus z l, minus (pos 0) l)) }
 
   some-in : Short xs lines i ≡ true → 0 < countsOf pays ts i
@@ -50,15 +50,16 @@ module _ {n used : ℕ} {H : House} {pays : List ℕ} {xs lines : List ℤ} {ts 
 -- so a payment of a short member can be taken off
 pub off-ready : {n used : ℕ} {pays befores : List ℕ} {xs lines : List ℤ} {ts : List ℕ} {i : ℕ}
     → Ready n used pays xs lines ts → Linked used pays befores → i < n → Short xs lines i ≡ true → Off pays befores xs ts i
-off-ready {i} r k h t =
-    let inside : i < 64 = omega (arith, r .members) in
+off-ready {pays} {ts} {i} r k h t =
+    let inside : i < 64 = omega (arith, r .stood .members) in
     let top = r .ranges .topped in
     record {
       member = inside;
       steady = record { each = r .ranges .each-position; near = λ k l. omega (arith, r .ranges .near k l) };
       each = top .each;
       places = omega (arith, top .within i inside, top .places);
-      some = some-in (r .stood) i h t;
+      some = top-above pays i (getD ts i 0) (some-in (r .stood) i h t);
+      behind = r .ranges .behind i inside;
       small = λ k l. r .ranges .small k (omega (arith, top .within i inside));
       linked = linked-below k (top .within i inside);
     }
@@ -84,7 +85,7 @@ module _ {used : ℕ} {pays : List ℕ} {xs ys lines : List ℤ} {ts us : List �
       let e : countsOf pays ts s - 1 ≡ length (queueOf s (take (t .place) pays)) = omega (arith, one-less (t .last)) in
       rw (counts-off t (rw (r .topped .each) inside), ← e) (around-lower (covered-lawful n H) s (st .around) h (short-uncovered st s h short))
 
-  stand-off : {n : ℕ} {H : House} → Stood n used H pays xs lines ts → s < n → (i : ℕ) → i < n → getD ys i (pos 0) ≡ position n H (countsOf pays us) i
+  stand-off : {n : ℕ} {H : House} → Stood n used H pays xs lines ts → s < n → (i : ℕ) → i < 64 → getD ys i (pos 0) ≡ position n H (countsOf pays us) i
   stand-off {n} {H} st h i k =
       let w = getD pays (t .place) 0 in
       let q = length (queueOf s (take (t .place) pays)) in
@@ -98,6 +99,7 @@ module _ {used : ℕ} {pays : List ℕ} {xs ys lines : List ℤ} {ts us : List �
   -- every house that stood so still does,
   pub stood-off : {n : ℕ} {H : House} → Stood n used H pays xs lines ts → s < n → Short xs lines s ≡ true → Stood n used H pays ys lines us
   stood-off st h short = record {
+    members = st .members;
     some = st .some;
     allowed = st .allowed;
     queues = st .queues;
@@ -126,6 +128,10 @@ module _ {used : ℕ} {pays : List ℕ} {xs ys lines : List ℤ} {ts us : List �
       each = rw (t .tops) (simp length-set (r .topped .each));
       within = λ i h. omega (arith, lowered i, r .topped .within i h);
     };
+    behind = λ i h. elim (ℕ-discrete i s) [
+      | yes e ↦ rw (e, t .tops, getD-set-same ts s (t .top) 0 (rw (r .topped .each) inside)) (t .behind)
+      | no e ↦ rw (t .tops, getD-set-other ts s i (t .top) 0 e) (r .behind i h)
+    ];
     each-position = rw (t .positions) (simp length-set (r .each-position));
     each-line = r .each-line;
     small = r .small;

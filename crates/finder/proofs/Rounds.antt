@@ -15,7 +15,7 @@ use Rattle.finder.proofs.Off.{else-covered}
 -- the finder can go on from whatever it has kept
 pub ready-on : {n used : ℕ} {pays : List ℕ} {lines xs ys : List ℤ} {ts us : List ℕ}
     → Ready n used pays xs lines ts → Ranges used pays ys lines us → Keeps n used pays lines xs ts ys us → Ready n used pays ys lines us
-ready-on d r k = record { members = d .members; ranges = r; house = d .house; stood = k (d .house) (d .stood) }
+ready-on d r k = record { ranges = r; house = d .house; stood = k (d .house) (d .stood) }
 
 -- ---- a round, member by member
 

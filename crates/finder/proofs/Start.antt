@@ -97,10 +97,10 @@ line-is : (z : ℤ) → pos 0 ≤ℤ z → z ≡ pos (up z)
 line-is z h = eq-of z (pos (up z)) (omega (arith, nonneg-is z h))
 
 module _ {n used : ℕ} {pays : List ℕ} {bs xs lines : List ℤ} {os ts : List ℕ} (g : Sits n used pays bs lines os) (d : Entered used pays bs xs) (t : AllIn used pays ts) where
-  full : (i : ℕ) → i < n → countsOf pays ts i ≡ length (queueOf i (take used pays))
-  full i h = rw (t .whole i (omega (arith, g .members)))
+  full : (i : ℕ) → i < 64 → countsOf pays ts i ≡ length (queueOf i (take used pays))
+  full i h = rw (t .whole i h)
 
-  sends : (i : ℕ) → i < n → sent (houseOf used pays bs lines) (countsOf pays ts) i ≡ total amountOf (queueOf i (take used pays))
+  sends : (i : ℕ) → i < 64 → sent (houseOf used pays bs lines) (countsOf pays ts) i ≡ total amountOf (queueOf i (take used pays))
   unfolding sent
   sends i h = rw (full i h) (worth-all amountOf (queueOf i (take used pays)))
 
@@ -108,25 +108,26 @@ module _ {n used : ℕ} {pays : List ℕ} {bs xs lines : List ℤ} {os ts : List
   unfolding received
   receives i =
       sum-cong n (λ j. worth (amountTo i) (queueOf j (take used pays)) (countsOf pays ts j)) (λ j. total (amountTo i) (queueOf j (take used pays)))
-      (λ j h. rw (full j h) (worth-all (amountTo i) (queueOf j (take used pays))))
+      (λ j h. rw (full j (omega (arith, g .members))) (worth-all (amountTo i) (queueOf j (take used pays))))
       ∙ by-payers n (amountTo i) (take used pays) (g .payers)
 
   stood-start : Stood n used (houseOf used pays bs lines) pays xs lines ts
   stood-start = record {
+    members = g .members;
     some = none;
     allowed = none-allowed (g .sound);
     queues = λ i h. refl;
     line = λ i h. line-is (getD lines i (pos 0)) (g .nonneg i h);
-    stand = λ i h. rw (sends i h, receives i) (d .sums i (omega (arith, g .members)));
-    around = around-cong (countsOf pays ts) around-start full;
+    stand = λ i h. rw (sends i h, receives i) (d .sums i h);
+    around = around-cong (countsOf pays ts) around-start (λ i h. full i (omega (arith, g .members)));
   }
 
   -- the finder can start from everything,
   pub ready-start : Ready n used pays xs lines ts
   ready-start = record {
-    members = g .members;
     ranges = record {
       topped = t .topped;
+      behind = t .behind;
       each-position = d .each;
       each-line = g .each-line;
       small = g .entering .small;
@@ -141,5 +142,6 @@ module _ {n used : ℕ} {pays : List ℕ} {bs xs lines : List ℤ} {os ts : List
   resolved f = record {
     topped = f .ranges .topped;
     largest = finds-largest f stood-start;
+    each = f .ranges .each-position;
     booked = f .keeps (houseOf used pays bs lines) stood-start .stand;
   }

@@ -1,4 +1,4 @@
--- The payments of a member below its top are the head of its queue; and a search downwards from the top ends at the last of them.
+-- The payments of a member below its top are the head of its queue, and the last of them stands just below a top that is behind one.
 use mathlib.Core.Path.{_≡_, refl, ap, _∙_}
 use mathlib.Core.Logic.{_≢_}
 use mathlib.Core.Bool.{Bool, true, false, cond}
@@ -11,7 +11,7 @@ use lib.Seq.{take-suc, take-add}
 use Rattle.rule.specs.Payment.{payerOf, payeeOf}
 use Rattle.rule.specs.Table.{queueOf}
 use Rattle.rule.proofs.Sums.{eqb-same, eqb-other}
-use Rattle.finder.specs.Tops.{LastAt}
+use Rattle.finder.specs.Tops.{Behind, LastAt}
 
 -- payer and payee are among 64
 pub payer-under : (w : ℕ) → payerOf w < 64
@@ -63,24 +63,17 @@ module _ {pays : List ℕ} {top i place : ℕ} (l : LastAt pays top i place) whe
       go [] w ys = refl
       go (x ∷ xs) w ys = go xs w ys
 
--- ---- the search for it
+-- a top just behind a payment of the member has that one below it
+pub last-behind : {pays : List ℕ} {i top : ℕ} → 0 < top → top ≤ length pays → Behind pays i top → LastAt pays top i (top - 1)
+last-behind {pays} {i} {top} some fits own =
+    let next : top ≡ suc (top - 1) = omega arith in
+    record {
+      under = omega arith;
+      payer = own some;
+      last = ap (λ (m : ℕ). queueOf i (take m pays)) next ∙ queue-own pays i (top - 1) (omega arith) (own some);
+    }
 
--- no payment of the member stands above place k and below its top
-pub record Seeking (pays : List ℕ) (top i k : ℕ) : Type 0 where
-  pub under : k < top
-  pub same : queueOf i (take top pays) ≡ queueOf i (take (suc k) pays)
-
-pub seek-start : (pays : List ℕ) (top i : ℕ) → 0 < length (queueOf i (take top pays)) → (0 < top) × Seeking pays top i (top - 1)
-seek-start pays zero i h = absurd (omega arith)
-seek-start pays (suc t) i h = (omega arith, record { under = omega arith; same = let e : suc t - 1 ≡ t = omega arith in rw e })
-
-pub seek-next : (pays : List ℕ) (top i k : ℕ) → top ≤ length pays → 0 < length (queueOf i (take top pays)) → Seeking pays top i k → payerOf (getD pays k 0) ≢ i
-    → (0 < k) × Seeking pays top i (k - 1)
-seek-next pays top i k fits some s ne = go k (s .under) (s .same ∙ queue-other pays i k (omega (arith, s .under)) ne)
-  where
-    go : (k : ℕ) → k < top → queueOf i (take top pays) ≡ queueOf i (take k pays) → (0 < k) × Seeking pays top i (k - 1)
-    go zero u e = absurd (omega (arith, ap length e))
-    go (suc k) u e = (omega arith, record { under = omega arith; same = let d : suc k - 1 ≡ k = omega arith in rw d e })
-
-pub seek-end : (pays : List ℕ) (top i k : ℕ) → top ≤ length pays → Seeking pays top i k → payerOf (getD pays k 0) ≡ i → LastAt pays top i k
-seek-end pays top i k fits s e = record { under = s .under; payer = e; last = s .same ∙ queue-own pays i k (omega (arith, s .under)) e }
+-- a member with a payment in has its top above 0
+pub top-above : (pays : List ℕ) (i top : ℕ) → 0 < length (queueOf i (take top pays)) → 0 < top
+top-above pays i zero h = absurd (omega arith)
+top-above pays i (suc t) h = omega arith

@@ -11,32 +11,33 @@ use Rattle.rule.specs.Payment.{payeeOf, amountOf}
 use Rattle.rule.specs.House.{House, waits, position, leeway, Covered, AllowedSet}
 use Rattle.rule.specs.Table.{queueOf}
 use Rattle.finder.specs.Limits.{far, mostAmount, farPosition}
-use Rattle.finder.specs.Tops.{countsOf, height, Topped, Linked, LastAt}
+use Rattle.finder.specs.Tops.{countsOf, height, Behind, Topped, Linked, LastAt}
 use Rattle.finder.specs.Positions.{moved, Small, Steady}
 
 -- ---- what is asked
 
--- the lists have their sizes, and no position can leave its range before every top is 0
+-- the lists have their sizes, each top is just behind a payment of its member, and no position can leave its range before every top is 0
 pub record Ranges (used : ℕ) (pays : List ℕ) (positions lines : List ℤ) (tops : List ℕ) : Type 0 where
   pub topped : Topped used pays tops
+  pub behind : (i : ℕ) → i < 64 → Behind pays i (getD tops i 0)
   pub each-position : length positions ≡ 64
   pub each-line : length lines ≡ 64
   pub small : Small used pays
   pub near : (i : ℕ) → i < 64 → far (getD positions i (pos 0)) + mostAmount * height tops ≤ farPosition
 
--- the house H has some allowed set, and these payments and lines; the positions are its own if what is below the tops is booked; and
--- every allowed set lies inside that
+-- the house H of n members has some allowed set, and these payments and lines; the positions are its own if what is below the tops is
+-- booked; and every allowed set lies inside that
 pub record Stood (n used : ℕ) (H : House) (pays : List ℕ) (positions lines : List ℤ) (tops : List ℕ) : Type 0 where
+  pub members : n ≤ 64
   pub some : Counts
   pub allowed : AllowedSet n H some
   pub queues : (i : ℕ) → i < n → H .queue i ≡ queueOf i (take used pays)
   pub line : (i : ℕ) → i < n → getD lines i (pos 0) ≡ leeway H i
-  pub stand : (i : ℕ) → i < n → getD positions i (pos 0) ≡ position n H (countsOf pays tops) i
+  pub stand : (i : ℕ) → i < 64 → getD positions i (pos 0) ≡ position n H (countsOf pays tops) i
   pub around : Around n (Covered n H) (waits H) (countsOf pays tops)
 
 -- some house stands so
 pub record Ready (n used : ℕ) (pays : List ℕ) (positions lines : List ℤ) (tops : List ℕ) : Type 0 where
-  pub members : n ≤ 64
   pub ranges : Ranges used pays positions lines tops
   pub house : House
   pub stood : Stood n used house pays positions lines tops
@@ -69,18 +70,19 @@ pub record Off (pays befores : List ℕ) (xs : List ℤ) (ts : List ℕ) (i : �
   pub steady : Steady xs
   pub each : length ts ≡ 64
   pub places : getD ts i 0 ≤ length pays
-  pub some : 0 < countsOf pays ts i
+  pub some : 0 < getD ts i 0
+  pub behind : Behind pays i (getD ts i 0)
   pub small : Small (getD ts i 0) pays
   pub linked : Linked (getD ts i 0) pays befores
 
--- the last payment of member i was taken off: its amount went back from the payee, and the top is where it stood or below, with no
--- payment of the member between
+-- the last payment of member i was taken off: its amount went back from the payee, and the top is just behind the payment before it
 pub record TakenOff (payee : ℕ) (pays : List ℕ) (i : ℕ) (xs ys : List ℤ) (ts us : List ℕ) : Type 0 where
   pub place : ℕ
   pub top : ℕ
   pub last : LastAt pays (getD ts i 0) i place
   pub paid : payee ≡ payeeOf (getD pays place 0)
   pub low : top ≤ place
+  pub behind : Behind pays i top
   pub same : queueOf i (take top pays) ≡ queueOf i (take place pays)
   pub positions : ys ≡ moved xs (payeeOf (getD pays place 0)) i (amountOf (getD pays place 0))
   pub tops : us ≡ set ts i top

@@ -29,8 +29,9 @@ pub record Sits (n used : ℕ) (pays : List ℕ) (balances lines : List ℤ) (to
   pub payers : Payers n (take used pays)
   pub sound : Sound n (houseOf used pays balances lines)
 
--- the payments below the tops are the largest set, and the positions are the balances once it is booked
+-- the payments below the tops are the largest set, and the 64 positions are the balances once it is booked
 pub record Resolved (n used : ℕ) (pays : List ℕ) (balances lines positions : List ℤ) (tops : List ℕ) : Type 0 where
   pub topped : Topped used pays tops
   pub largest : LargestSet n (houseOf used pays balances lines) (countsOf pays tops)
-  pub booked : (i : ℕ) → i < n → getD positions i (pos 0) ≡ position n (houseOf used pays balances lines) (countsOf pays tops) i
+  pub each : length positions ≡ 64
+  pub booked : (i : ℕ) → i < 64 → getD positions i (pos 0) ≡ position n (houseOf used pays balances lines) (countsOf pays tops) i

@@ -2,7 +2,7 @@
 -- member that stand below its top.
 use mathlib.Core.Path.{_≡_}
 use mathlib.Core.List.{List, [], _∷_, _++_}
-use Prim.Native.Nat.{ℕ, _≤_, _<_}
+use Prim.Native.Nat.{ℕ, _-_, _≤_, _<_}
 use lib.ListN.{length, getD, take}
 use Rattle.rule.specs.Kernel.{Counts, sum}
 use Rattle.rule.specs.Payment.{payerOf}
@@ -16,6 +16,10 @@ countsOf pays tops i = length (queueOf i (take (getD tops i 0) pays))
 unfoldable pub height : List ℕ → ℕ
 height tops = sum 64 (λ i. getD tops i 0)
 
+-- the top of member i is 0, or just behind one of its payments
+abbrev pub Behind : List ℕ → ℕ → ℕ → Type 0
+Behind pays i top = 0 < top → payerOf (getD pays (top - 1) 0) ≡ i
+
 -- each member has a top, at most at the end of the used places
 pub record Topped (used : ℕ) (pays tops : List ℕ) : Type 0 where
   pub places : used ≤ length pays
@@ -27,15 +31,17 @@ pub record NoneIn (tops : List ℕ) : Type 0 where
   pub each : length tops ≡ 64
   pub none : (i : ℕ) → i < 64 → getD tops i 0 ≡ 0
 
--- every payment of every member is in
+-- every payment of every member is in, and each top is just behind the member's last one
 pub record AllIn (used : ℕ) (pays tops : List ℕ) : Type 0 where
   pub topped : Topped used pays tops
+  pub behind : (i : ℕ) → i < 64 → Behind pays i (getD tops i 0)
   pub whole : (i : ℕ) → i < 64 → queueOf i (take (getD tops i 0) pays) ≡ queueOf i (take used pays)
 
--- the list tells of each payment a place at or below its own, and between the two stands no payment of the same payer
+-- the list tells of each payment a place at or below its own: just behind the payment of the same payer before it, or 0 where there is none
 pub record Linked (used : ℕ) (pays befores : List ℕ) : Type 0 where
   pub each : used ≤ length befores
   pub back : (m : ℕ) → m < used → getD befores m 0 ≤ m
+  pub behind : (m : ℕ) → m < used → Behind pays (payerOf (getD pays m 0)) (getD befores m 0)
   pub same : (m : ℕ) → m < used
       → queueOf (payerOf (getD pays m 0)) (take (getD befores m 0) pays) ≡ queueOf (payerOf (getD pays m 0)) (take m pays)
 

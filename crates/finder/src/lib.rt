@@ -1,15 +1,14 @@
 // The finder of the largest allowed set. Everything is in at first; round by round the last payment of each short member is taken off,
 // and of whoever is short then, until none is. Which payments are in is told by the tops: those of a member that stand below its top.
-// The befores lead from each payment to just behind the same payer's payment before it.
+// A top is 0 or just behind a payment of its member, and the befores lead from each payment to just behind the same payer's before it.
 ghost use mathlib.Core.Path.{_≡_};
 ghost use Prim.Native.Nat.{_+_, _<_, _≤_};
 ghost use lib.IntN.{pos, _-ℤ_};
 ghost use lib.Signed.{_≤ℤ_, ltZ};
-ghost use lib.ListN.{length, getD, take};
+ghost use lib.ListN.{length, getD};
 ghost use Rattle.rule.specs.Payment.{payerOf, payeeOf, amountOf};
-ghost use Rattle.rule.specs.Table.{queueOf};
 ghost use Rattle.finder.specs.Limits.{far, mostAmount, mostPlaces, farPosition};
-ghost use Rattle.finder.specs.Tops.{Topped, NoneIn, AllIn, Linked, LastAt, CountsBelow};
+ghost use Rattle.finder.specs.Tops.{Topped, NoneIn, AllIn, Linked, CountsBelow};
 ghost use Rattle.finder.specs.Positions.{added, moved, Steady, Entering, Entered};
 ghost use Rattle.finder.specs.Finder.{Ready, TakenOff, Off, Stepped, Rounded, FoundSet};
 ghost use Rattle.finder.specs.Resolve.{Sits, Resolved};
@@ -158,7 +157,7 @@ fn take_off<'a>(
     ensures { λ r. ⌜ TakenOff r (now (pays .entry)) member (now (positions .entry)) (now (positions .exit)) (now (tops .entry)) (now (tops .exit)) ⌝ }
 {
     let top = tops[member];
-    let place = last_of(pays, top, member);
+    let place = top - 1;
     let w = pays[place];
     let payee = rule::payee_of(w);
     let amount = rule::amount_of(w);
@@ -166,23 +165,6 @@ fn take_off<'a>(
     let before = befores[place] as usize;
     tops[member] = before;
     payee
-}
-
-// The place of the member's last payment below its top. It has one.
-fn last_of(pays: &[u64], top: usize, member: usize) -> usize
-    requires { ⌜ top ≤ length (now pays) ⌝ }
-    requires { ⌜ 0 < length (queueOf member (take top (now pays))) ⌝ }
-    ensures { λ r. ⌜ LastAt (now (pays .entry)) top member r ⌝ }
-{
-    let mut i = top - 1;
-    let mut w = pays[i];
-    let mut payer = rule::payer_of(w);
-    while payer != member {
-        i -= 1;
-        w = pays[i];
-        payer = rule::payer_of(w);
-    }
-    i
 }
 
 // Enters the first `used` payments into positions that hold the balances.
