@@ -14,7 +14,7 @@ ghost use Rattle.entry.specs.Deposit.{depositAct};
 ghost use Rattle.entry.specs.Submit.{submitAct};
 ghost use Rattle.settling.specs.Release.{releaseAct};
 ghost use Rattle.settling.specs.Group.{groupAct};
-ghost use Rattle.resolving.specs.Resolve.{resolveAct};
+ghost use Rattle.resolving.specs.Resolve.{resolveAct, ToldLargest};
 
 // Opens a house of `count` members on lent tables, whatever they held.
 pub fn open(
@@ -102,6 +102,7 @@ pub fn resolve(
     counts: &mut [u16],
 ) -> Resolved
     ensures { λ r. ⌜ outcome (r, now (counts .exit)) (tables (now (accounts .exit)) (now (counters .exit)) (now (pays .exit))) ≡ called (resolveAct (now (counts .entry))) (tables (now (accounts .entry)) (now (counters .entry)) (now (pays .entry))) ⌝ }
+    ensures { λ r. ⌜ ToldLargest r (tables (now (accounts .entry)) (now (counters .entry)) (now (pays .entry))) (now (counts .exit)) ⌝ }
 {
     if !tables::look::is_state(accounts, counters, pays) {
         return Resolved::Refused(Refusal::State);

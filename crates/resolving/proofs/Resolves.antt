@@ -11,7 +11,7 @@ use Rattle.rule.specs.House.{waits, booked, LargestSet, Same}
 use Rattle.rule.specs.Verdict.{verdict, Says}
 use Rattle.rule.specs.Resolution.{resolution}
 use Rattle.rule.proofs.Lists.{length-listing, getD-listing}
-use Rattle.rule.proofs.Kernel.{holds-cong}
+use Rattle.rule.proofs.Kernel.{largest-cong}
 use Rattle.rule.proofs.Cover.{covered-lawful}
 use Rattle.rule.proofs.Resolution.{resolution-largest}
 use Rattle.rule.proofs.Verdict.{verdict-says}
@@ -37,13 +37,7 @@ module _ {T : Tables} (h : Holds T) where
 
   -- the counts told are those of the largest allowed set,
   pub largest-is : LargestSet (membersIn T) (houseIn T) (listed (largestIn T))
-  largest-is = let l = resolution-largest (holds-sound h) in record {
-    allowed = record {
-      within = λ i q. omega (arith, same i q, l .allowed .within i q);
-      holds = λ i q. holds-cong (covered-lawful (membersIn T) (houseIn T)) i (resolution (membersIn T) (houseIn T)) (listed (largestIn T)) q same (l .allowed .holds i q);
-    };
-    top = λ y a i q. omega (arith, same i q, l .top y a i q);
-  }
+  largest-is = largest-cong (covered-lawful (membersIn T) (houseIn T)) (listed (largestIn T)) same (resolution-largest (holds-sound h))
 
   -- which can be booked, so that the laws of a booking hold of it,
   pub largest-books : Books T (listed (largestIn T))

@@ -12,11 +12,12 @@ use borrow.Author.Tests.{lt-ltb, le-ltb}
 use Rattle.rule.specs.Ints.{up}
 use Rattle.rule.specs.Lists.{fill}
 use Rattle.rule.specs.Kernel.{Counts, sum}
-use Rattle.rule.specs.House.{waits, sent, Same}
+use Rattle.rule.specs.House.{waits, sent, received, LargestSet, Same}
 use Rattle.rule.specs.Verdict.{verdictOf}
 use Rattle.rule.specs.Resolution.{resolution}
 use Rattle.rule.proofs.Lists.{fill-length, fill-at, length-listing, getD-listing}
-use Rattle.rule.proofs.Kernel.{largest-unique}
+use Rattle.rule.proofs.Kernel.{largest-unique, largest-cong}
+use Rattle.rule.proofs.Cover.{covered-lawful}
 use Rattle.rule.proofs.Resolution.{resolution-largest}
 use Rattle.rule.proofs.Same.{largest-same}
 use Rattle.sets.specs.Sets.{setOf}
@@ -24,11 +25,12 @@ use Rattle.sets.proofs.Highest.{set-cong}
 use Rattle.finder.specs.Tops.{CountsBelow}
 use Rattle.finder.specs.Resolve.{Sits, Resolved, houseOf as foundIn}
 use Rattle.finder.proofs.Tops.{queue-grows}
-use Rattle.finder.proofs.Counts.{counted-largest}
+use Rattle.finder.proofs.Counts.{counted-largest, counted-positions}
+use Rattle.tables.specs.Sizes.{members}
 use Rattle.tables.specs.Layout.{Tables, membersIn, waitingIn, houseIn, lastOf, settledOf, balanceOf, lineOf}
 use Rattle.tables.specs.Holds.{Holds}
 use Rattle.tables.proofs.Houses.{holds-payers, holds-sound, no-queue, waiting-sum}
-use Rattle.booking.specs.Booking.{listed, bookedIn, Counted}
+use Rattle.booking.specs.Booking.{listed, bookedIn, Counted, Weighed}
 use Rattle.booking.proofs.Entering.{can-enter}
 use Rattle.booking.proofs.Kept.{counts-sum, booked-count, booked-last}
 use Rattle.booking.proofs.Reading.{settled-booked}
@@ -36,12 +38,12 @@ use Rattle.answers.specs.declared.Resolution.{Resolution}
 use Rattle.answers.specs.declared.Resolved.the-variants.{Done}
 use Rattle.answers.specs.Outcome.{outcome}
 use Rattle.answers.specs.Verdicts.{named}
-use Rattle.resolving.specs.Resolve.{largestIn, stillWaits, told, resolveAct, LargestIs}
+use Rattle.resolving.specs.Resolve.{largestIn, stillWaits, told, resolveAct, Balances, LargestIs}
 
 -- ---- the largest set
 
-module _ {T : Tables} (h : Holds T) (bs ls : List ℤ) (each : length bs ≡ 64) (each-line : length ls ≡ 64)
-    (same : (i : ℕ) → i < 64 → getD bs i (pos 0) ≡ balanceOf (T .accounts) i) (same-line : (i : ℕ) → i < 64 → getD ls i (pos 0) ≡ lineOf (T .accounts) i) where
+module _ {T : Tables} (h : Holds T) {bs : List ℤ} (b : Balances (T .accounts) bs) (ls : List ℤ) (each-line : length ls ≡ members)
+    (same-line : (i : ℕ) → i < members → getD ls i (pos 0) ≡ lineOf (T .accounts) i) where
   none-counted : Counted T (replicate 64 0)
   none-counted = record { holds = h; members = length-replicate {A = ℕ} 64 0; within = λ i q. rw (getD-replicate {A = ℕ} 64 i 0 0 q) (omega arith) }
 
@@ -49,18 +51,18 @@ module _ {T : Tables} (h : Holds T) (bs ls : List ℤ) (each : length bs ≡ 64)
   pub can-find : (tops : List ℕ) → length tops ≡ 64 → Sits (membersIn T) (waitingIn T) (T .pays) bs ls tops
   can-find tops each-top = record {
     members = h .counters .few;
-    entering = can-enter none-counted bs each same;
+    entering = can-enter none-counted bs (b .each) (b .same);
     each-line = each-line;
     each-top = each-top;
     nonneg = λ i l. rw (same-line i (omega (arith, h .counters .few))) (h .accounts .holders i l .line);
     payers = holds-payers h;
-    sound = record { covers = λ i l. let q : i < 64 = omega (arith, h .counters .few) in rw (same i q, same-line i q) (holds-sound h .covers i l) };
+    sound = record { covers = λ i l. let q : i < 64 = omega (arith, h .counters .few) in rw (b .same i q, same-line i q) (holds-sound h .covers i l) };
   }
 
   same-house : Same (membersIn T) (foundIn (waitingIn T) (T .pays) bs ls) (houseIn T)
   same-house = record {
     lines = λ i l. ap up (sym (same-line i (omega (arith, h .counters .few))));
-    balances = λ i l. sym (same i (omega (arith, h .counters .few)));
+    balances = λ i l. sym (b .same i (omega (arith, h .counters .few)));
     queues = λ i l. refl;
   }
 
@@ -70,6 +72,14 @@ module _ {T : Tables} (h : Holds T) (bs ls : List ℤ) (each : length bs ≡ 64)
     each = d .each;
     largest = largest-same same-house (counted-largest (h .counters .few) r d);
     past = λ i l q. omega (arith, d .below i q, queue-grows (T .pays) (waitingIn T) i (getD tops i 0) (r .topped .within i q), ap length (no-queue h i l));
+  }
+
+  -- and its positions are where they take the balances
+  pub found-weighed : {ys : List ℤ} {tops counts : List ℕ} → Resolved (membersIn T) (waitingIn T) (T .pays) bs ls ys tops → CountsBelow (T .pays) tops counts → Weighed T counts ys
+  unfolding sent received
+  found-weighed {ys} {tops} {counts} r d = record {
+    members = r .each;
+    weighs = λ i q. counted-positions (h .counters .few) r d i q ∙ rw (b .same i q);
   }
 
 resolution-same : (x y : Resolution) → x .verdict ≡ y .verdict → x .payments ≡ y .payments → x .sum ≡ y .sum → x .waiting ≡ y .waiting → x ≡ y
@@ -117,6 +127,11 @@ module _ {T : Tables} {all : List ℕ} (h : Holds T) (l : LargestIs T all) where
       let long = length-take-le (membersIn T) all (omega (arith, h .counters .few, l .each)) in
       ext-getD 0 (take (membersIn T) all) (largestIn T) (long ∙ sym (length-listing (membersIn T) (resolution (membersIn T) (houseIn T))))
       (λ i q. getD-take (membersIn T) all i 0 (omega (arith, long)) ∙ largest-at i)
+
+  -- told as the first of them, they are the largest set,
+  pub largest-told : {k : List ℕ} → k ≡ take (membersIn T) all → LargestSet (membersIn T) (houseIn T) (listed k)
+  largest-told {k} e =
+      largest-cong (covered-lawful (membersIn T) (houseIn T)) (listed k) (λ i q. rw e (sym (getD-take (membersIn T) all i 0 q))) (l .largest)
 
   ends : setOf (membersIn (bookedIn T (listed all))) (λ i. ltb (settledOf (bookedIn T (listed all) .counters) i) (lastOf (bookedIn T (listed all) .counters) i)) ≡ setOf (membersIn T) (stillWaits (houseIn T) (listed all))
   ends =

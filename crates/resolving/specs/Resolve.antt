@@ -4,14 +4,16 @@ use mathlib.Core.Bool.{Bool, not}
 use mathlib.Core.List.{List, [], _∷_}
 use Prim.Native.Nat.{ℕ, _≤_, _<_}
 use lib.Dec.{eqb, ltb}
-use lib.ListN.{length}
+use lib.IntN.{ℤ, pos}
+use lib.ListN.{length, getD}
 use Rattle.rule.specs.Lists.{listing}
 use Rattle.rule.specs.Kernel.{Counts, sum}
 use Rattle.rule.specs.House.{House, waits, sent, LargestSet}
 use Rattle.rule.specs.Verdict.{verdict}
 use Rattle.rule.specs.Resolution.{resolution}
 use Rattle.sets.specs.Sets.{setOf}
-use Rattle.tables.specs.Layout.{Tables, membersIn, houseIn}
+use Rattle.tables.specs.Sizes.{members}
+use Rattle.tables.specs.Layout.{Tables, membersIn, houseIn, balanceOf}
 use Rattle.booking.specs.Booking.{listed, bookedIn}
 use Rattle.answers.specs.Codes.{test}
 use Rattle.answers.specs.Outcome.{Act, outcome}
@@ -42,8 +44,20 @@ resolveAct k = record {
   does = λ T. outcome (Done (told (membersIn T) (houseIn T) (listed (largestIn T))), largestIn T) (bookedIn T (listed (largestIn T)));
 }
 
--- the 64 counts in a list are those of the largest allowed set: past the members they are 0
+-- where a resolution was made, the counts told are the largest allowed set of the house that the tables held before it
+abbrev pub ToldLargest : Resolved → Tables → List ℕ → Type 0
+ToldLargest (Done r) T counts = LargestSet (membersIn T) (houseIn T) (listed counts)
+ToldLargest (Refused r) T counts = Unit {0}
+
+-- ---- its steps
+
+-- the positions are the balances that the accounts hold
+pub record Balances (accounts positions : List ℤ) : Type 0 where
+  pub each : length positions ≡ members
+  pub same : (i : ℕ) → i < members → getD positions i (pos 0) ≡ balanceOf accounts i
+
+-- the counts in a list of the house's length are those of the largest allowed set: past the members they are 0
 pub record LargestIs (T : Tables) (counts : List ℕ) : Type 0 where
-  pub each : length counts ≡ 64
+  pub each : length counts ≡ members
   pub largest : LargestSet (membersIn T) (houseIn T) (listed counts)
-  pub past : (i : ℕ) → membersIn T ≤ i → i < 64 → listed counts i ≡ 0
+  pub past : (i : ℕ) → membersIn T ≤ i → i < members → listed counts i ≡ 0

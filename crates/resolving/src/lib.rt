@@ -3,6 +3,7 @@ use answers::Refusal;
 use answers::Resolution;
 use answers::Resolved;
 use answers::Verdict;
+use tables::House;
 use tables::steps::wide;
 ghost use mathlib.Core.Path.{_≡_};
 ghost use Prim.Native.Nat.{_≤_};
@@ -10,11 +11,13 @@ ghost use lib.Dec.{ltb};
 ghost use lib.ListN.{length, take};
 ghost use Rattle.rule.specs.Verdict.{verdictOf};
 ghost use Rattle.sets.specs.Sets.{setOf};
+ghost use Rattle.tables.specs.Sizes.{members, table};
 ghost use Rattle.tables.specs.Layout.{tables, countOf, lastOf, settledOf};
 ghost use Rattle.tables.specs.Holds.{Holds};
+ghost use Rattle.booking.specs.Booking.{Weighed};
 ghost use Rattle.answers.specs.Outcome.{outcome, held};
 ghost use Rattle.answers.specs.Verdicts.{named};
-ghost use Rattle.resolving.specs.Resolve.{resolveAct, LargestIs};
+ghost use Rattle.resolving.specs.Resolve.{resolveAct, ToldLargest, Balances, LargestIs};
 
 // Settles the largest allowed set, and writes its counts into the lent list.
 pub fn resolve(
@@ -25,14 +28,15 @@ pub fn resolve(
 ) -> Resolved
     requires { ⌜ Holds (tables (now accounts) (now counters) (now pays)) ⌝ }
     ensures { λ r. ⌜ outcome (r, now (counts .exit)) (tables (now (accounts .exit)) (now (counters .exit)) (now (pays .exit))) ≡ held (resolveAct (now (counts .entry))) (tables (now (accounts .entry)) (now (counters .entry)) (now (pays .entry))) ⌝ }
+    ensures { λ r. ⌜ ToldLargest r (tables (now (accounts .entry)) (now (counters .entry)) (now (pays .entry))) (now (counts .exit)) ⌝ }
 {
     if counts.len() != wide(counters[0]) {
         return Resolved::Refused(Refusal::Counts);
     }
     let waited = counters[1];
-    let all = largest(accounts, counters, pays);
+    let mut positions = booking::balances(accounts);
+    let all = largest(accounts, counters, pays, &mut positions);
     let settled = booking::tally(&all);
-    let positions = booking::weigh(accounts, counters, pays, &all);
     let sum = booking::book(accounts, counters, pays, &positions, &all);
     tell(counts, &all);
     Resolved::Done(Resolution {
@@ -43,17 +47,24 @@ pub fn resolve(
     })
 }
 
-// The counts of the largest allowed set, for 64 members.
-fn largest(accounts: &[i64], counters: &[u32], pays: &[u64]) -> [u16; 64]
+// The counts of the largest allowed set, one for each place of a member. The positions hold the balances before, and then where the set
+// takes them.
+fn largest(
+    accounts: &[i64],
+    counters: &[u32],
+    pays: &[u64],
+    positions: &mut [i64],
+) -> [u16; House::MEMBERS]
     requires { ⌜ Holds (tables (now accounts) (now counters) (now pays)) ⌝ }
+    requires { ⌜ Balances (now accounts) (now positions) ⌝ }
     ensures { λ r. ⌜ LargestIs (tables (now (accounts .entry)) (now (counters .entry)) (now (pays .entry))) r ⌝ }
+    ensures { λ r. ⌜ Weighed (tables (now (accounts .entry)) (now (counters .entry)) (now (pays .entry))) r (now (positions .exit)) ⌝ }
 {
     let used = wide(counters[1]);
     let n = wide(counters[0]);
-    let mut positions = booking::balances(accounts);
-    let lines = booking::balances(&accounts[64..]);
-    let mut tops = [0usize; 64];
-    finder::resolve(pays, used, &mut positions, &lines, &mut tops, n);
+    let lines = booking::balances(&accounts[House::LINES_AT..]);
+    let mut tops = [0usize; House::MEMBERS];
+    finder::resolve(pays, used, positions, &lines, &mut tops, n);
     finder::count_below(pays, used, &tops)
 }
 
@@ -87,7 +98,7 @@ fn verdict_of(waited: u32, settled: u32) -> Verdict
 
 // The set of members with payments waiting.
 fn still_waiting(counters: &[u32]) -> u64
-    requires { ⌜ (512 ≤ length (now counters)) × (countOf (now counters) ≤ 64) ⌝ }
+    requires { ⌜ (table ≤ length (now counters)) × (countOf (now counters) ≤ members) ⌝ }
     ensures { λ r. ⌜ r ≡ setOf (countOf (now (counters .entry))) (λ i. ltb (settledOf (now (counters .entry)) i) (lastOf (now (counters .entry)) i)) ⌝ }
 {
     let mut set = 0u64;
@@ -95,7 +106,7 @@ fn still_waiting(counters: &[u32]) -> u64
     while i > 0 {
         i -= 1;
         set = set * 2;
-        if counters[128 + i] < counters[64 + i] {
+        if counters[House::SETTLED_AT + i] < counters[House::LASTS_AT + i] {
             set += 1;
         }
     }

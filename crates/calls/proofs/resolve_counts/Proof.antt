@@ -76,7 +76,7 @@ returns c =
     let s = c .before .before .before .before .before .before .before .before .before .before .before .before .before .before .before .before .before .before .before .before .before .before .before .before .before .before .before .before .before .before .before .before .before .before .before .before .before .before .before in
     accepted toldResolved (called (resolveAct (s .args .k .now))) (lends (s .args .s .now) (s .args .counts .now) (s .args .answer .now))
     (tables-same (c .before .before .before .before .before .before .before .before .before .before .before .before .before .before .before .before .before .before .before .before .before .before .before .before .before .before .before .before .before .before .before .before .before .accounts-of .ensures .0) (c .before .before .before .before .before .before .before .before .before .before .before .before .before .before .before .before .before .before .before .before .before .before .before .before .before .before .before .before .before .before .before .counters-of .ensures .0) (c .before .before .before .before .before .before .before .before .before .before .before .before .before .before .before .before .before .before .before .before .before .before .before .before .before .before .before .before .before .pays-of .ensures .0))
-    (c .before .before .before .before .before .before .before .before .before .before .before .before .before .before .before .before .before .before .before .before .before .before .before .before .resolve .ensures)
+    (c .before .before .before .before .before .before .before .before .before .before .before .before .before .before .before .before .before .before .before .before .before .before .before .before .resolve .ensures .0)
     (with-list (c .before .before .before .before .before .before .before .before .before .before .before .before .before .before .before .before .before .r .given .1))
     refl
     (c .before .before .before .before .before .before .before .before .before .before .before .store .ensures)
@@ -94,7 +94,7 @@ returns-2 c =
     let s = c .before .before .before .before .before .before .before .before .before .before .before .before .before .before .before .before .before .before .before .before .before .before .before .before in
     refused toldResolved (called (resolveAct (s .args .k .now))) (lends (s .args .s .now) (s .args .counts .now) (s .args .answer .now))
     (tables-same (c .before .before .before .before .before .before .before .before .before .before .before .before .before .before .before .before .before .before .accounts-of .ensures .0) (c .before .before .before .before .before .before .before .before .before .before .before .before .before .before .before .before .counters-of .ensures .0) (c .before .before .before .before .before .before .before .before .before .before .before .before .before .before .pays-of .ensures .0))
-    (c .before .before .before .before .before .before .before .before .before .resolve .ensures)
+    (c .before .before .before .before .before .before .before .before .before .resolve .ensures .0)
     (with-list (c .before .before .r2 .given .1))
     refl
     (c .code .ensures)

@@ -22,7 +22,7 @@ same-length-3 c = search needs
 
 returns : tie.Need-returns
 unfolding resolveAct
-returns c = sym (called-none _ _ (flag-no (c .before .is-state .ensures) (c .if1 .taken)))
+returns c = (sym (called-none _ _ (flag-no (c .before .is-state .ensures) (c .if1 .taken))), tt)
 
 resolve-requires : tie.Need-resolve-requires
 resolve-requires c κs = state-holds (flag-yes (c .before .before .before .before .before .is-state .ensures) (c .before .before .before .before .if1 .left))
@@ -40,7 +40,10 @@ same-length-7 : tie.Need-same-length-7
 same-length-7 c = search needs
 
 returns-2 : tie.Need-returns-2
-returns-2 c = c .before .before .before .before .before .before .before .resolve .ensures ∙ sym (called-held _ _ (flag-yes (c .before .before .before .before .before .before .before .before .before .before .before .before .before .is-state .ensures) (c .before .before .before .before .before .before .before .before .before .before .before .before .if1 .left)))
+returns-2 c =
+    let r = c .before .before .before .before .before .before .before in
+    let e = r .before .before .before .before .before in
+    (r .resolve .ensures .0 ∙ sym (called-held _ _ (flag-yes (e .before .is-state .ensures) (e .if1 .left))), r .resolve .ensures .1)
 
 pub resolve-spec : {M : Type 1} → statement M
 resolve-spec =

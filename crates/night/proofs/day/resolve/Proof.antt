@@ -46,7 +46,7 @@ same-length-3 c = search needs
 returns : tie.Need-returns
 returns c =
     let s = c .before .before .before .before .before .before .before .before .before .before .before .before .before .before .before .before .before .before .before in
-    rw (c .told .ensures) (resolve-line (tables (s .args .accounts .now) (s .args .counters .now) (s .args .pays .now)) (s .args .n) (take (c .before .before .before .before .before .before .before .before .before .before .before .before .before .before .before .wide .result) (replicate 64 0)) (s .pre) (simp length-take (omega (arith, c .before .before .before .before .before .before .before .before .before .before .before .before .before .before .before .wide .ensures, s .pre .counters .few))) (rw (c .before .before .r .given .1) at (c .before .before .before .before .before .before .before .before .before .before .resolve .ensures)))
+    rw (c .told .ensures) (resolve-line (tables (s .args .accounts .now) (s .args .counters .now) (s .args .pays .now)) (s .args .n) (take (c .before .before .before .before .before .before .before .before .before .before .before .before .before .before .before .wide .result) (replicate 64 0)) (s .pre) (simp length-take (omega (arith, c .before .before .before .before .before .before .before .before .before .before .before .before .before .before .before .wide .ensures, s .pre .counters .few))) (rw (c .before .before .r .given .1) at (c .before .before .before .before .before .before .before .before .before .before .resolve .ensures .0)))
 
 same-length-4 : tie.Need-same-length-4
 same-length-4 c = search needs
@@ -60,7 +60,7 @@ same-length-6 c = search needs
 returns-2 : tie.Need-returns-2
 returns-2 c =
     let s = c .before .before .before .before .before .before .before .before .before .before .before .before .before .before .before .before .before .before .before in
-    absurd (never-refused (tables (s .args .accounts .now) (s .args .counters .now) (s .args .pays .now)) (take (c .before .before .before .before .before .before .before .before .before .before .before .before .before .before .before .wide .result) (replicate 64 0)) (c .before .before .r2 .given .0 .0) (simp length-take (omega (arith, c .before .before .before .before .before .before .before .before .before .before .before .before .before .before .before .wide .ensures, s .pre .counters .few))) (rw (c .before .before .r2 .given .1) at (c .before .before .before .before .before .before .before .before .before .before .resolve .ensures)))
+    absurd (never-refused (tables (s .args .accounts .now) (s .args .counters .now) (s .args .pays .now)) (take (c .before .before .before .before .before .before .before .before .before .before .before .before .before .before .before .wide .result) (replicate 64 0)) (c .before .before .r2 .given .0 .0) (simp length-take (omega (arith, c .before .before .before .before .before .before .before .before .before .before .before .before .before .before .before .wide .ensures, s .pre .counters .few))) (rw (c .before .before .r2 .given .1) at (c .before .before .before .before .before .before .before .before .before .before .resolve .ensures .0)))
 
 pub resolve-spec : {M : Type 1} → statement M
 resolve-spec =
