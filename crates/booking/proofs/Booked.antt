@@ -15,7 +15,8 @@ use Rattle.rule.specs.Table.{leaving, staying}
 use Rattle.rule.proofs.Lists.{fill-cong}
 use Rattle.rule.proofs.Sums.{sum-mono}
 use Rattle.rule.proofs.Table.{all-leaving}
-use Rattle.tables.specs.Layout.{Tables, membersIn, waitingIn, wordsIn, houseIn}
+use Rattle.tables.specs.Sizes.{members, places, lastNumber}
+use Rattle.tables.specs.Layout.{Tables, membersIn, waitingIn, wordsIn, houseIn, lastsAt}
 use Rattle.tables.specs.Holds.{Holds}
 use Rattle.tables.proofs.Houses.{holds-payers, no-queue, waiting-sum}
 use Rattle.booking.specs.Booking.{listed, bookedIn, Counted, Weighed}
@@ -39,27 +40,27 @@ module _ {T : Tables} (h : Holds T) where
   pub closed-booked : (z : Counts) → closedUp (waitingIn T) (staying z (wordsIn T)) (T .pays) ≡ bookedIn T z .pays
   unfolding bookedIn
   closed-booked z = closed-fill (waitingIn T) (staying z (wordsIn T)) (T .pays) (omega (arith, staying-short (wordsIn T) z, length-take (waitingIn T) (T .pays)))
-      (omega arith) 2048 (h .counters .room) (h .places .deep) (h .places .no-payment)
+      (omega arith) places (h .counters .room) (h .places .deep) (h .places .no-payment)
 
   -- and the amounts of those that leave are what the members send
   pub sum-sent : (z : Counts) → total amountOf (leaving z (wordsIn T)) ≡ sum (membersIn T) (sent (houseIn T) z)
   unfolding sent
   sum-sent z = sym (all-leaving (membersIn T) amountOf (wordsIn T) z (holds-payers h))
 
-  waiting-all : sum 64 (waits (houseIn T)) ≡ waitingIn T
-  waiting-all = sum-rest 64 (membersIn T) (waits (houseIn T)) (h .counters .few) (λ i l q. ap length (no-queue h i l)) ∙ waiting-sum h
+  waiting-all : sum members (waits (houseIn T)) ≡ waitingIn T
+  waiting-all = sum-rest members (membersIn T) (waits (houseIn T)) (h .counters .few) (λ i l q. ap length (no-queue h i l)) ∙ waiting-sum h
 
 -- counters of a state can take counts within its queues
-pub countable : {T : Tables} {counts : List ℕ} → Counted T counts → ((i : ℕ) → getD (T .counters) i 0 < 4294967296) → Countable (T .counters) counts
+pub countable : {T : Tables} {counts : List ℕ} → Counted T counts → ((i : ℕ) → getD (T .counters) i 0 ≤ lastNumber) → Countable (T .counters) counts
 countable {T} {counts} g fits = let h = g .holds in record {
   broad = h .counters .broad;
   members = g .members;
-  settles = λ i q. omega (arith, g .within i q, h .numbers .each i q, fits (64 + i));
-  waits = subst (λ k. sum 64 (listed counts) ≤ k) (waiting-all h) (sum-mono 64 (listed counts) (waits (houseIn T)) (g .within));
+  settles = λ i q. omega (arith, g .within i q, h .numbers .each i q, fits (lastsAt + i));
+  waits = subst (λ k. sum members (listed counts) ≤ k) (waiting-all h) (sum-mono members (listed counts) (waits (houseIn T)) (g .within));
 }
 
 -- the positions, stored, are the booked balances
 pub positions-booked : {T : Tables} {counts : List ℕ} {xs : List ℤ} → Holds T → Weighed T counts xs
-    → fill 64 (λ i. getD xs i (pos 0)) (T .accounts) ≡ bookedIn T (listed counts) .accounts
+    → fill members (λ i. getD xs i (pos 0)) (T .accounts) ≡ bookedIn T (listed counts) .accounts
 unfolding bookedIn
-positions-booked {T} {counts} {xs} h w = fill-cong (λ i. getD xs i (pos 0)) (position (membersIn T) (houseIn T) (listed counts)) (T .accounts) 64 (omega (arith, h .accounts .long)) (w .weighs) (pos 0)
+positions-booked {T} {counts} {xs} h w = fill-cong (λ i. getD xs i (pos 0)) (position (membersIn T) (houseIn T) (listed counts)) (T .accounts) members (omega (arith, h .accounts .long)) (w .weighs) (pos 0)

@@ -11,6 +11,7 @@ use Rattle.rule.specs.Kernel.{sum}
 use Rattle.rule.specs.Payment.{payerOf, amountOf}
 use Rattle.rule.specs.Queue.{total}
 use Rattle.rule.specs.Table.{leaving, staying}
+use Rattle.tables.specs.Sizes.{members}
 use Rattle.finder.specs.Limits.{mostAmount}
 use Rattle.finder.proofs.Tops.{payer-under}
 use Rattle.booking.specs.Booking.{listed}
@@ -30,14 +31,14 @@ module _ (a b : List ℕ) (i : ℕ) (e : drop i a ≡ drop i b) where
 take-put : (l : List ℕ) (i a : ℕ) → i < length l → take (i + 1) (set l i a) ≡ take i l ++ (a ∷ [])
 take-put l i a h = rw add-one (take-suc-set l i a h)
 
-cut-out : (p : List ℕ) (to i n : ℕ) → to ≤ i → i ≤ n → n ≤ length p → drop (i - to) (take (n - to) (drop to p)) ≡ drop i (take n p)
+pub cut-out : (p : List ℕ) (to i n : ℕ) → to ≤ i → i ≤ n → n ≤ length p → drop (i - to) (take (n - to) (drop to p)) ≡ drop i (take n p)
 cut-out p to i n a b h =
     let f : to + (n - to) ≡ n = omega arith in
     let g : length (take to p) + (i - to) ≡ i = omega (arith, length-take-le to p (omega arith)) in
     sym (drop-append-add (take to p) (take (n - to) (drop to p)) (i - to)) ∙ ap (λ k. drop k (take to p ++ take (n - to) (drop to p))) g
     ∙ ap (λ l. drop i l) (sym (take-add to (n - to) p) ∙ ap (λ k. take k p) f)
 
-regroup : (a b z d : List ℕ) → a ++ ((b ++ z) ++ d) ≡ (a ++ b) ++ (z ++ d)
+pub regroup : (a b z d : List ℕ) → a ++ ((b ++ z) ++ d) ≡ (a ++ b) ++ (z ++ d)
 regroup a b z d = simp append-assoc
 
 -- before place i, with `more` still to leave: the first `to` places, with what stays of the rest, are all that stays; and so for the sum of
@@ -46,7 +47,7 @@ pub record Closing (n : ℕ) (p₀ l₀ p l : List ℕ) (more paid i to : ℕ) :
   pub behind : to ≤ i
   pub within : i ≤ n
   pub long : length p ≡ length p₀
-  pub members : length l ≡ 64
+  pub members : length l ≡ members
   pub still : more ≡ sum (length l) (listed l)
   pub ahead : drop i p ≡ drop i p₀
   pub kept : take to p ++ staying (listed l) (drop i (take n p₀)) ≡ staying (listed l₀) (take n p₀)
@@ -54,7 +55,7 @@ pub record Closing (n : ℕ) (p₀ l₀ p l : List ℕ) (more paid i to : ℕ) :
   pub most : paid ≤ mostAmount * i
 
 -- the pass starts,
-pub closing-start : {more : ℕ} (n : ℕ) (p l : List ℕ) → length l ≡ 64 → more ≡ sum (length l) (listed l) → Closing n p l p l more 0 0 0
+pub closing-start : {more : ℕ} (n : ℕ) (p l : List ℕ) → length l ≡ members → more ≡ sum (length l) (listed l) → Closing n p l p l more 0 0 0
 closing-start n p l h e = record {
   behind = omega arith;
   within = omega arith;

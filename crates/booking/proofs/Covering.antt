@@ -8,6 +8,7 @@ use lib.IntN.{ℤ, pos, _+ℤ_, _-ℤ_}
 use lib.Signed.{leZ, ltZ}
 use Rattle.rule.specs.House.{position}
 use Rattle.rule.proofs.Ints.{plus, minus, ltZ-true, ltZ-false, true-leZ, false-leZ}
+use Rattle.tables.specs.Sizes.{members}
 use Rattle.tables.specs.Layout.{Tables, membersIn, houseIn, lineOf}
 use Rattle.tables.specs.State.{every}
 use Rattle.tables.specs.Holds.{Holds}
@@ -32,6 +33,6 @@ pub covered-is : {T : Tables} {counts : List ℕ} {positions : List ℤ} → Hol
     → coveredAll (membersIn T) positions (T .accounts) ≡ every (λ i. leZ (pos 0) (position (membersIn T) (houseIn T) (listed counts) i +ℤ pos (houseIn T .line i))) (membersIn T)
 covered-is {T} {counts} {positions} h w = every-same (coveredAt positions (T .accounts)) (λ i. leZ (pos 0) (position (membersIn T) (houseIn T) (listed counts) i +ℤ pos (houseIn T .line i))) (membersIn T)
     (λ i l.
-    let q : i < 64 = omega (arith, h .counters .few) in
+    let q : i < members = omega (arith, h .counters .few) in
     ap (λ x. leZ (pos 0) (x +ℤ lineOf (T .accounts) i)) (w .weighs i q)
     ∙ ap (λ x. leZ (pos 0) (position (membersIn T) (houseIn T) (listed counts) i +ℤ x)) (line-is h i q))

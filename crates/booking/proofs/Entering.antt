@@ -14,6 +14,7 @@ use Rattle.rule.specs.Queue.{total}
 use Rattle.rule.specs.Table.{queueOf, leaving}
 use Rattle.rule.proofs.Ints.{plus, minus, eq-of}
 use Rattle.rule.proofs.Table.{sent-leaving, received-leaving}
+use Rattle.tables.specs.Sizes.{members}
 use Rattle.tables.specs.Layout.{Tables, membersIn, waitingIn, wordsIn, houseIn, balanceOf}
 use Rattle.tables.specs.Needs.{Near}
 use Rattle.tables.proofs.Balances.{accounts-near}
@@ -58,7 +59,7 @@ none-yet : (x : ℤ) → x ≡ x -ℤ pos 0 +ℤ pos 0
 none-yet x = eq-of x (x -ℤ pos 0 +ℤ pos 0) (omega (arith, minus x (pos 0), plus (x -ℤ pos 0) (pos 0)))
 
 -- less what the member pays, with what it is paid
-pub entered-at : (xs : List ℤ) (ws : List ℕ) (i : ℕ) → length xs ≡ 64
+pub entered-at : (xs : List ℤ) (ws : List ℕ) (i : ℕ) → length xs ≡ members
     → getD (entered xs ws) i (pos 0) ≡ getD xs i (pos 0) -ℤ pos (total amountOf (queueOf i ws)) +ℤ pos (total (amountTo i) ws)
 entered-at xs [] i h = none-yet (getD xs i (pos 0))
 entered-at xs (w ∷ ws) i h =
@@ -72,13 +73,13 @@ pub entered-length : (xs : List ℤ) (ws : List ℕ) → length (entered xs ws) 
 entered-length xs [] = refl
 entered-length xs (w ∷ ws) = entered-length (moved xs (payerOf w) (payeeOf w) (amountOf w)) ws ∙ simp length-set
 
-module _ {T : Tables} {counts : List ℕ} (g : Counted T counts) (bs : List ℤ) (members : length bs ≡ 64)
-    (same : (i : ℕ) → i < 64 → getD bs i (pos 0) ≡ balanceOf (T .accounts) i) where
+module _ {T : Tables} {counts : List ℕ} (g : Counted T counts) (bs : List ℤ) (each : length bs ≡ members)
+    (same : (i : ℕ) → i < members → getD bs i (pos 0) ≡ balanceOf (T .accounts) i) where
   -- the counted payments, entered into the balances, lead to the positions of the rule
   pub weighed : Weighed T counts (entered bs (leaving (listed counts) (wordsIn T)))
   weighed = record {
-    members = entered-length bs (leaving (listed counts) (wordsIn T)) ∙ members;
-    weighs = λ i h. entered-at bs (leaving (listed counts) (wordsIn T)) i members
+    members = entered-length bs (leaving (listed counts) (wordsIn T)) ∙ each;
+    weighs = λ i h. entered-at bs (leaving (listed counts) (wordsIn T)) i each
         ∙ rw (
           same i h,
           sent-leaving (houseIn T) (wordsIn T) (listed counts) i refl,
@@ -95,7 +96,7 @@ module _ {T : Tables} {counts : List ℕ} (g : Counted T counts) (bs : List ℤ)
   can-enter = let h = g .holds in record {
     places = omega arith;
     few = h .counters .room;
-    each = members;
+    each = each;
     small = λ k l. omega (arith, h .places .words k l .small);
     near = λ i l. rw (same i l) (near-far (balanceOf (T .accounts) i) (accounts-near (h .accounts) i l));
   }
@@ -106,14 +107,14 @@ module _ {T : Tables} {counts : List ℕ} (g : Counted T counts) (bs : List ℤ)
 -- at most an amount further
 pub record Underway (used : ℕ) (p : List ℕ) (xs₀ : List ℤ) (l₀ : List ℕ) (xs : List ℤ) (l : List ℕ) (more i : ℕ) : Type 0 where
   pub within : i ≤ used
-  pub each : length xs ≡ 64
-  pub members : length l ≡ 64
+  pub each : length xs ≡ members
   pub still : more ≡ sum (length l) (listed l)
   pub left : entered xs (leaving (listed l) (drop i (take used p))) ≡ entered xs₀ (leaving (listed l₀) (take used p))
-  pub near : (k : ℕ) → k < 64 → far (getD xs k (pos 0)) ≤ farBalance + mostAmount * i
+  pub near : (k : ℕ) → k < members → far (getD xs k (pos 0)) ≤ farBalance + mostAmount * i
+  pub members : length l ≡ members
 
 -- the pass starts,
-pub underway-start : {used more : ℕ} {p : List ℕ} {xs : List ℤ} (l : List ℕ) → Entering used p xs → length l ≡ 64 → more ≡ sum (length l) (listed l)
+pub underway-start : {used more : ℕ} {p : List ℕ} {xs : List ℤ} (l : List ℕ) → Entering used p xs → length l ≡ members → more ≡ sum (length l) (listed l)
     → Underway used p xs l xs l more 0
 underway-start l g h e = record { within = omega arith; each = g .each; members = h; still = e; left = refl; near = λ k q. omega (arith, g .near k q) }
 

@@ -13,8 +13,8 @@ use Rattle.rule.specs.House.{position, AllowedSet, booked, Same}
 use Rattle.rule.specs.Table.{queueOf, staying}
 use Rattle.rule.proofs.Money.{money-same}
 use Rattle.rule.proofs.Table.{queue-staying}
-use Rattle.tables.specs.Sizes.{most}
-use Rattle.tables.specs.Layout.{Tables, membersIn, waitingIn, wordsIn, houseIn, lastOf, settledOf, balanceOf, lineOf, moneyOf}
+use Rattle.tables.specs.Sizes.{most, members, places, table}
+use Rattle.tables.specs.Layout.{Tables, membersIn, waitingIn, wordsIn, houseIn, lastOf, settledOf, balanceOf, lineOf, moneyOf, linesAt, spareAccountsAt, lastsAt, spareCountersAt}
 use Rattle.tables.specs.Holds.{Holder, Payment, Holds}
 use Rattle.tables.proofs.Houses.{line-is, holds-payment, holds-payers}
 use Rattle.booking.specs.Booking.{bookedIn}
@@ -23,14 +23,14 @@ use Rattle.booking.proofs.Booked.{sum-rest}
 use Rattle.booking.proofs.Outside.{no-position, money-position}
 use Rattle.booking.proofs.Reading.{accounts-length, balance-booked, account-booked, counters-length, waiting-set, settled-booked, counter-before, counter-behind, places-length, place-booked, place-cleared}
 
--- counts of n members are the counts of all 64
-pub counts-sum : (n : ℕ) (z : Counts) → n ≤ 64 → ((i : ℕ) → n ≤ i → i < 64 → z i ≡ 0) → sum 64 z ≡ sum n z
-counts-sum n z h f = sum-rest 64 n z h f
+-- the counts of n members are all counts
+pub counts-sum : (n : ℕ) (z : Counts) → n ≤ members → ((i : ℕ) → n ≤ i → i < members → z i ≡ 0) → sum members z ≡ sum n z
+counts-sum n z h f = sum-rest members n z h f
 
 -- z is allowed, and counts nothing past the members: what an accepted release, group or resolution books
 pub record Books (T : Tables) (z : Counts) : Type 0 where
   pub allowed : AllowedSet (membersIn T) (houseIn T) z
-  pub past : (i : ℕ) → membersIn T ≤ i → i < 64 → z i ≡ 0
+  pub past : (i : ℕ) → membersIn T ≤ i → i < members → z i ≡ 0
 
 module _ {T : Tables} (h : Holds T) (z : Counts) where
   -- booking keeps how many members there are,
@@ -38,15 +38,15 @@ module _ {T : Tables} (h : Holds T) (z : Counts) where
   booked-count = counter-before h z 0 (λ e. absurd (omega arith)) (omega arith)
 
   -- the last number of each,
-  pub booked-last : (i : ℕ) → i < 64 → lastOf (bookedIn T z .counters) i ≡ lastOf (T .counters) i
-  booked-last i q = counter-before h z (64 + i) (λ e. absurd (omega arith)) (omega arith)
+  pub booked-last : (i : ℕ) → i < members → lastOf (bookedIn T z .counters) i ≡ lastOf (T .counters) i
+  booked-last i q = counter-before h z (lastsAt + i) (λ e. absurd (omega arith)) (omega arith)
 
   -- and the sum of balances
   pub booked-money : moneyOf (bookedIn T z .accounts) ≡ moneyOf (T .accounts)
-  booked-money = money-same 64 (position (membersIn T) (houseIn T) z) (balanceOf (bookedIn T z .accounts)) (balance-booked h z) ∙ money-position h z
+  booked-money = money-same members (position (membersIn T) (houseIn T) z) (balanceOf (bookedIn T z .accounts)) (balance-booked h z) ∙ money-position h z
 
   line-kept : (i : ℕ) → lineOf (bookedIn T z .accounts) i ≡ lineOf (T .accounts) i
-  line-kept i = account-booked h z (64 + i) (omega arith)
+  line-kept i = account-booked h z (linesAt + i) (omega arith)
 
   module _ (b : Books T z) where
     before : length (wordsIn T) ≡ waitingIn T
@@ -62,7 +62,7 @@ module _ {T : Tables} (h : Holds T) (z : Counts) where
         less : (x y w : ℕ) → x + y ≡ w → w - y ≡ x
         less x y w e = omega arith
 
-    few : length (staying z (wordsIn T)) ≤ 2048
+    few : length (staying z (wordsIn T)) ≤ places
     few = omega (arith, stay, h .counters .room)
 
     words-booked : wordsIn (bookedIn T z) ≡ staying z (wordsIn T)
@@ -85,12 +85,12 @@ module _ {T : Tables} (h : Holds T) (z : Counts) where
       queues = λ i l. queue-kept i;
     }
 
-    counted : (i : ℕ) → i < 64 → z i ≤ length (queueOf i (wordsIn T))
+    counted : (i : ℕ) → i < members → z i ≤ length (queueOf i (wordsIn T))
     counted i q = elim (decLt i (membersIn T)) [ yes l ↦ b .allowed .within i l | no l ↦ omega (arith, b .past i (omega arith) q) ]
 
     holder-kept : (i : ℕ) → i < membersIn T → Holder (balanceOf (bookedIn T z .accounts) i) (lineOf (bookedIn T z .accounts) i)
     holder-kept i l =
-        let q : i < 64 = omega (arith, h .counters .few) in
+        let q : i < members = omega (arith, h .counters .few) in
         let o = h .accounts .holders i l in
         rw (balance-booked h z i q, line-kept i) (record {
           line = o .line;
@@ -98,7 +98,7 @@ module _ {T : Tables} (h : Holds T) (z : Counts) where
           cover = subst (λ x. pos 0 ≤ℤ (position (membersIn T) (houseIn T) z i +ℤ x)) (sym (line-is h i q)) (b .allowed .holds i l .cover);
         })
 
-    number-kept : (i : ℕ) → i < 64 → settledOf (bookedIn T z .counters) i + length (queueOf i (wordsIn (bookedIn T z))) ≡ lastOf (bookedIn T z .counters) i
+    number-kept : (i : ℕ) → i < members → settledOf (bookedIn T z .counters) i + length (queueOf i (wordsIn (bookedIn T z))) ≡ lastOf (bookedIn T z .counters) i
     number-kept i q =
         ap (λ k. k + length (queueOf i (wordsIn (bookedIn T z)))) (settled-booked h z i q)
         ∙ ap (λ l. settledOf (T .counters) i + z i + length l) (queue-kept i)
@@ -114,23 +114,23 @@ module _ {T : Tables} (h : Holds T) (z : Counts) where
     pub booked-holds : Holds (bookedIn T z)
     booked-holds = record {
       counters = record {
-        broad = subst (λ k. 512 ≤ k) (sym (counters-length h z)) (h .counters .broad);
+        broad = subst (λ k. table ≤ k) (sym (counters-length h z)) (h .counters .broad);
         one = subst (λ k. 1 ≤ k) (sym booked-count) (h .counters .one);
-        few = subst (λ k. k ≤ 64) (sym booked-count) (h .counters .few);
-        room = subst (λ k. k ≤ 2048) (sym waiting-booked) few;
+        few = subst (λ k. k ≤ members) (sym booked-count) (h .counters .few);
+        room = subst (λ k. k ≤ places) (sym waiting-booked) few;
         spare = λ k q. counter-before h z (2 + k) (λ e. absurd (omega arith)) (omega arith) ∙ h .counters .spare k q;
-        later = λ k q. counter-behind h z (192 + k) (omega arith) ∙ h .counters .later k q;
+        later = λ k q. counter-behind h z (spareCountersAt + k) (omega arith) ∙ h .counters .later k q;
       };
       accounts = record {
-        long = subst (λ k. 512 ≤ k) (sym (accounts-length h z)) (h .accounts .long);
+        long = subst (λ k. table ≤ k) (sym (accounts-length h z)) (h .accounts .long);
         holders = λ i l. holder-kept i (subst (λ k. i < k) booked-count l);
         sum = subst (λ x. x ≤ℤ pos most) (sym booked-money) (h .accounts .sum);
         no-balance = λ i l q. balance-booked h z i q ∙ no-position h z i (subst (λ n. n ≤ i) booked-count l) q;
         no-line = λ i l q. line-kept i ∙ h .accounts .no-line i (subst (λ n. n ≤ i) booked-count l) q;
-        spare = λ k q. account-booked h z (128 + k) (omega arith) ∙ h .accounts .spare k q;
+        spare = λ k q. account-booked h z (spareAccountsAt + k) (omega arith) ∙ h .accounts .spare k q;
       };
       places = record {
-        deep = subst (λ k. 2048 ≤ k) (sym (places-length h z)) (h .places .deep);
+        deep = subst (λ k. places ≤ k) (sym (places-length h z)) (h .places .deep);
         words = λ k l. let q : k < length (staying z (wordsIn T)) = subst (λ n. k < n) waiting-booked l in
             subst (λ n. Payment n (getD (bookedIn T z .pays) k 0)) (sym booked-count)
             (subst (Payment (membersIn T)) (sym (place-booked h z k (omega (arith, few)))) (staying-each (Payment (membersIn T)) (wordsIn T) z (holds-payment h) k q));

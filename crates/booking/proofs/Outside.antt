@@ -1,4 +1,4 @@
--- Who is no member pays nothing and is paid nothing, so that booking keeps the sum of all 64 balances.
+-- Who is no member pays nothing and is paid nothing, so that booking keeps the sum of all balances.
 use mathlib.Core.Path.{_≡_, refl, sym, ap, _∙_}
 use mathlib.Core.List.{List, [], _∷_}
 use Prim.Native.Nat.{ℕ, zero, suc, _≤_, _<_}
@@ -14,6 +14,7 @@ use Rattle.rule.proofs.Ints.{plus-zero}
 use Rattle.rule.proofs.Sums.{sum-cong, sum-zero, eqb-other}
 use Rattle.rule.proofs.Queues.{outgoing-drop}
 use Rattle.rule.proofs.Money.{money-booked}
+use Rattle.tables.specs.Sizes.{members}
 use Rattle.tables.specs.Layout.{Tables, membersIn, houseIn, balanceOf, moneyOf}
 use Rattle.tables.specs.Holds.{Holds}
 use Rattle.tables.proofs.Houses.{holds-proper, no-queue}
@@ -52,12 +53,12 @@ module _ {T : Tables} (h : Holds T) (z : Counts) where
       ∙ sum-zero (membersIn T)
 
   -- whatever is booked, who is no member stands at 0,
-  pub no-position : (i : ℕ) → membersIn T ≤ i → i < 64 → position (membersIn T) (houseIn T) z i ≡ pos 0
+  pub no-position : (i : ℕ) → membersIn T ≤ i → i < members → position (membersIn T) (houseIn T) z i ≡ pos 0
   no-position i l q = rw (h .accounts .no-balance i l q, sends-none i l, receives-none i l)
 
   -- and the sum of all balances is as it was
-  pub money-position : money 64 (position (membersIn T) (houseIn T) z) ≡ moneyOf (T .accounts)
+  pub money-position : money members (position (membersIn T) (houseIn T) z) ≡ moneyOf (T .accounts)
   money-position =
-      money-rest 64 (membersIn T) (position (membersIn T) (houseIn T) z) (h .counters .few) no-position
+      money-rest members (membersIn T) (position (membersIn T) (houseIn T) z) (h .counters .few) no-position
       ∙ money-booked (membersIn T) (houseIn T) z (holds-proper h)
-      ∙ sym (money-rest 64 (membersIn T) (balanceOf (T .accounts)) (h .counters .few) (h .accounts .no-balance))
+      ∙ sym (money-rest members (membersIn T) (balanceOf (T .accounts)) (h .counters .few) (h .accounts .no-balance))

@@ -13,6 +13,7 @@ use Rattle.rule.specs.Payment.{payerOf}
 use Rattle.rule.specs.Table.{leaving, staying}
 use Rattle.rule.proofs.Sums.{sum-one}
 use Rattle.rule.proofs.Find.{put-at, put-other}
+use Rattle.tables.specs.Sizes.{members}
 use Rattle.finder.proofs.Tops.{payer-under}
 use Rattle.booking.specs.Booking.{listed}
 use Rattle.booking.specs.Steps.{Ends}
@@ -92,12 +93,12 @@ none-counted (suc n) z e i h = elim (ℕ-discrete i n) [
   | no q ↦ none-counted n z (omega arith) i (omega arith)
 ]
 
-none-left : (l ws : List ℕ) → length l ≡ 64 → sum (length l) (listed l) ≡ 0 → leaving (listed l) ws ≡ []
+none-left : (l ws : List ℕ) → length l ≡ members → sum (length l) (listed l) ≡ 0 → leaving (listed l) ws ≡ []
 none-left l [] h e = refl
 none-left l (w ∷ ws) h e = leaving-none (listed l) w ws (none-counted (length l) (listed l) e (payerOf w) (rw h (payer-under w))) ∙ none-left l ws h e
 
 -- no payment of the rest leaves,
-pub none-leaves : {n more end : ℕ} (p l : List ℕ) (i : ℕ) → length l ≡ 64 → more ≡ sum (length l) (listed l) → Ends n more end → end ≤ i
+pub none-leaves : {n more end : ℕ} (p l : List ℕ) (i : ℕ) → length l ≡ members → more ≡ sum (length l) (listed l) → Ends n more end → end ≤ i
     → leaving (listed l) (drop i (take n p)) ≡ []
 none-leaves {n} {more} {end} p l i h m g q = elim (decLt end n) [
   | yes r ↦ none-left l (drop i (take n p)) h (sym m ∙ g .early r)

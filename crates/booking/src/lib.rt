@@ -1,10 +1,10 @@
 // Booking a set of payments, given as counts from the heads: where it takes each balance, whether each member is covered then, and
-// the tables with it booked.
+// the tables with it booked. One head alone is booked by itself.
 use tables::House;
 use tables::steps::wide;
 ghost use mathlib.Core.Path.{_≡_};
 ghost use mathlib.Core.List.{_++_};
-ghost use Prim.Native.Nat.{ℕ, _+_, _-_, _^_, _≤_, _<_};
+ghost use Prim.Native.Nat.{ℕ, _+_, _-_, _≤_, _<_};
 ghost use lib.IntN.{pos};
 ghost use lib.ListN.{length, getD, take, drop, replicate};
 ghost use Rattle.rule.specs.Lists.{fill};
@@ -12,15 +12,24 @@ ghost use Rattle.rule.specs.Kernel.{sum};
 ghost use Rattle.rule.specs.Payment.{amountOf};
 ghost use Rattle.rule.specs.Queue.{total};
 ghost use Rattle.rule.specs.House.{sent};
-ghost use Rattle.rule.specs.Table.{leaving, staying};
-ghost use Rattle.tables.specs.Layout.{tables, countOf, houseIn};
-ghost use Rattle.tables.specs.Holds.{Counters, Accounts};
-ghost use Rattle.booking.specs.Booking.{listed, countersBooked, bookedIn, coveredAll, Counted, Weighed};
+ghost use Rattle.rule.specs.Table.{queueOf, leaving, staying};
+ghost use Rattle.tables.specs.Sizes.{members, table, lastNumber};
+ghost use Rattle.tables.specs.Layout.{tables, countOf, waitingOf, lastOf, settledOf, houseIn};
+ghost use Rattle.tables.specs.Holds.{Counters, Accounts, Holds};
+ghost use Rattle.booking.specs.Booking.{listed, headAlone, countersBooked, bookedIn, coveredAll, Counted, Weighed, HeadAt};
 ghost use Rattle.finder.specs.Positions.{Entering};
-ghost use Rattle.booking.specs.Steps.{Words, Countable, Ends, entered, closedUp};
+ghost use Rattle.booking.specs.Steps.{Words, Countable, Ends, FirstOf, Lowered, entered, closedUp};
+
+// So many places are looked at, or moved, a turn.
+const BLOCK: usize = 16;
 
 // Where the counted payments take each balance.
-pub fn weigh(accounts: &[i64], counters: &[u32], pays: &[u64], counts: &[u16]) -> [i64; 64]
+pub fn weigh(
+    accounts: &[i64],
+    counters: &[u32],
+    pays: &[u64],
+    counts: &[u16],
+) -> [i64; House::MEMBERS]
     requires { ⌜ Counted (tables (now accounts) (now counters) (now pays)) (now counts) ⌝ }
     ensures { λ r. ⌜ Weighed (tables (now (accounts .entry)) (now (counters .entry)) (now (pays .entry))) (now (counts .entry)) r ⌝ }
 {
@@ -33,13 +42,13 @@ pub fn weigh(accounts: &[i64], counters: &[u32], pays: &[u64], counts: &[u16]) -
 // Whether each member is covered at these positions: none is below minus its line.
 pub fn covered(positions: &[i64], accounts: &[i64], counters: &[u32]) -> bool
     requires { ⌜ Counters (now counters) × Accounts (countOf (now counters)) (now accounts) ⌝ }
-    requires { ⌜ length (now positions) ≡ 64 ⌝ }
+    requires { ⌜ length (now positions) ≡ members ⌝ }
     ensures { λ r. ⌜ r ≡ coveredAll (countOf (now (counters .entry))) (now (positions .entry)) (now (accounts .entry)) ⌝ }
 {
     let n = wide(counters[0]);
     let mut i = 0;
     while i < n {
-        if finder::is_short(positions[i], accounts[64 + i]) {
+        if finder::is_short(positions[i], accounts[House::LINES_AT + i]) {
             return false;
         }
         i += 1;
@@ -67,14 +76,100 @@ pub fn book(
     sum
 }
 
+// ---- one head
+
+// Where a member's head stands, of the first `used` payments.
+pub fn head_of(pays: &[u64], used: usize, seat: usize) -> usize
+    requires { ⌜ (used ≤ length (now pays)) × (0 < length (queueOf seat (take used (now pays)))) ⌝ }
+    ensures { λ r. ⌜ HeadAt used (now (pays .entry)) seat r ⌝ }
+{
+    let mut i = 0;
+    while used - i >= BLOCK {
+        let k = first_of(&pays[i..i + BLOCK], seat);
+        if k < BLOCK {
+            return i + k;
+        }
+        i += BLOCK;
+    }
+    i + first_of(&pays[i..used], seat)
+}
+
+// The place of the first payment that a member pays, or the length where it pays none.
+fn first_of(pays: &[u64], seat: usize) -> usize
+    ensures { λ r. ⌜ FirstOf (now (pays .entry)) seat r ⌝ }
+{
+    let mut i = 0;
+    while i < pays.len() {
+        if rule::payer_of(pays[i]) == seat {
+            return i;
+        }
+        i += 1;
+    }
+    i
+}
+
+// Books a member's head, which stands at place `at`.
+pub fn book_head(
+    accounts: &mut [i64],
+    counters: &mut [u32],
+    pays: &mut [u64],
+    seat: usize,
+    at: usize,
+)
+    requires { ⌜ Holds (tables (now accounts) (now counters) (now pays)) × (seat < members) × HeadAt (waitingOf (now counters)) (now pays) seat at ⌝ }
+    ensures { λ _. ⌜ tables (now (accounts .exit)) (now (counters .exit)) (now (pays .exit)) ≡ bookedIn (tables (now (accounts .entry)) (now (counters .entry)) (now (pays .entry))) (headAlone seat) ⌝ }
+{
+    let w = pays[at];
+    finder::enter(&mut accounts[..House::MEMBERS], w);
+    close_one(&mut pays[at..wide(counters[1])]);
+    count_head(counters, seat);
+}
+
+// A member's head is settled, and waits no more.
+fn count_head(counters: &mut [u32], seat: usize)
+    requires { ⌜ (table ≤ length (now counters)) × (seat < members) × (1 ≤ waitingOf (now counters)) × (settledOf (now counters) seat < lastOf (now counters) seat) ⌝ }
+    ensures { λ _. ⌜ now (counters .exit) ≡ countersBooked (now (counters .entry)) (headAlone seat) ⌝ }
+{
+    counters[House::SETTLED_AT + seat] += 1;
+    counters[1] -= 1;
+}
+
+// Closes a gap of one place at the front: the rest moves down, and the last place is 0.
+fn close_one(s: &mut [u64])
+    requires { ⌜ 1 ≤ length (now s) ⌝ }
+    ensures { λ _. ⌜ now (s .exit) ≡ drop 1 (now (s .entry)) ++ replicate 1 0 ⌝ }
+{
+    let n = s.len();
+    let mut i = 0;
+    while n - i > BLOCK {
+        lower(&mut s[i..i + BLOCK + 1]);
+        i += BLOCK;
+    }
+    lower(&mut s[i..n]);
+    s[n - 1] = 0;
+}
+
+// Each place but the last takes what stands behind it.
+fn lower(s: &mut [u64])
+    requires { ⌜ 1 ≤ length (now s) ⌝ }
+    ensures { λ _. ⌜ Lowered (now (s .entry)) (now (s .exit)) (length (now (s .entry)) - 1) ⌝ }
+{
+    let last = s.len() - 1;
+    let mut i = 0;
+    while i < last {
+        s[i] = s[i + 1];
+        i += 1;
+    }
+}
+
 // ---- the steps
 
-// The first 64 accounts, which are the balances.
-pub fn balances(accounts: &[i64]) -> [i64; 64]
-    requires { ⌜ 64 ≤ length (now accounts) ⌝ }
-    ensures { λ r. ⌜ ((i : ℕ) → i < 64 → getD r i (pos 0) ≡ getD (now (accounts .entry)) i (pos 0)) ⌝ }
+// The balances, which are the first accounts.
+pub fn balances(accounts: &[i64]) -> [i64; House::MEMBERS]
+    requires { ⌜ members ≤ length (now accounts) ⌝ }
+    ensures { λ r. ⌜ ((i : ℕ) → i < members → getD r i (pos 0) ≡ getD (now (accounts .entry)) i (pos 0)) ⌝ }
 {
-    let mut r = [0i64; 64];
+    let mut r = [0i64; House::MEMBERS];
     let mut i = 0;
     while i < House::MEMBERS {
         r[i] = accounts[i];
@@ -84,11 +179,11 @@ pub fn balances(accounts: &[i64]) -> [i64; 64]
 }
 
 // The counts, to be counted down.
-fn copied(counts: &[u16]) -> [u16; 64]
-    requires { ⌜ length (now counts) ≡ 64 ⌝ }
+fn copied(counts: &[u16]) -> [u16; House::MEMBERS]
+    requires { ⌜ length (now counts) ≡ members ⌝ }
     ensures { λ r. ⌜ r ≡ now (counts .entry) ⌝ }
 {
-    let mut r = [0u16; 64];
+    let mut r = [0u16; House::MEMBERS];
     let mut i = 0;
     while i < House::MEMBERS {
         r[i] = counts[i];
@@ -101,7 +196,7 @@ fn copied(counts: &[u16]) -> [u16; 64]
 // places behind the last payment that leaves are not looked at.
 fn enter_leaving(pays: &[u64], used: usize, positions: &mut [i64], left: &mut [u16])
     requires { ⌜ Entering used (now pays) (now positions) ⌝ }
-    requires { ⌜ length (now left) ≡ 64 ⌝ }
+    requires { ⌜ length (now left) ≡ members ⌝ }
     ensures { λ _. ⌜ now (positions .exit) ≡ entered (now (positions .entry)) (leaving (listed (now (left .entry))) (take used (now (pays .entry)))) ⌝ }
 {
     let mut more = tally(left);
@@ -125,7 +220,7 @@ fn enter_leaving(pays: &[u64], used: usize, positions: &mut [i64], left: &mut [u
 // down. The counts are counted down. Answers the sum of the amounts that left.
 fn close_up(pays: &mut [u64], used: usize, left: &mut [u16]) -> u64
     requires { ⌜ Words used (now pays) ⌝ }
-    requires { ⌜ length (now left) ≡ 64 ⌝ }
+    requires { ⌜ length (now left) ≡ members ⌝ }
     ensures { λ r. ⌜ now (pays .exit) ≡ closedUp used (staying (listed (now (left .entry))) (take used (now (pays .entry)))) (now (pays .entry)) ⌝ }
     ensures { λ r. ⌜ r ≡ total amountOf (leaving (listed (now (left .entry))) (take used (now (pays .entry)))) ⌝ }
 {
@@ -191,10 +286,10 @@ fn clear(s: &mut [u64])
     }
 }
 
-// The first 64 accounts are the positions.
+// The first accounts, which are the balances, are the positions.
 fn store(accounts: &mut [i64], positions: &[i64])
-    requires { ⌜ (64 ≤ length (now accounts)) × (length (now positions) ≡ 64) ⌝ }
-    ensures { λ _. ⌜ now (accounts .exit) ≡ fill 64 (λ i. getD (now (positions .entry)) i (pos 0)) (now (accounts .entry)) ⌝ }
+    requires { ⌜ (members ≤ length (now accounts)) × (length (now positions) ≡ members) ⌝ }
+    ensures { λ _. ⌜ now (accounts .exit) ≡ fill members (λ i. getD (now (positions .entry)) i (pos 0)) (now (accounts .entry)) ⌝ }
 {
     let mut i = 0;
     while i < House::MEMBERS {
@@ -208,15 +303,18 @@ fn count_off(counters: &mut [u32], counts: &[u16])
     requires { ⌜ Countable (now counters) (now counts) ⌝ }
     ensures { λ _. ⌜ now (counters .exit) ≡ countersBooked (now (counters .entry)) (listed (now (counts .entry))) ⌝ }
 {
-    add_counts(&mut counters[128..192], counts);
+    add_counts(
+        &mut counters[House::SETTLED_AT..House::SPARE_COUNTERS_AT],
+        counts,
+    );
     counters[1] -= tally(counts);
 }
 
 // Adds to each counter of a block what was settled.
 fn add_counts(block: &mut [u32], counts: &[u16])
-    requires { ⌜ (length (now block) ≡ 64) × (length (now counts) ≡ 64) ⌝ }
-    requires { ⌜ ((i : ℕ) → i < 64 → getD (now block) i 0 + getD (now counts) i 0 < 4294967296) ⌝ }
-    ensures { λ _. ⌜ now (block .exit) ≡ fill 64 (λ i. getD (now (block .entry)) i 0 + getD (now (counts .entry)) i 0) (now (block .entry)) ⌝ }
+    requires { ⌜ (length (now block) ≡ members) × (length (now counts) ≡ members) ⌝ }
+    requires { ⌜ ((i : ℕ) → i < members → getD (now block) i 0 + getD (now counts) i 0 ≤ lastNumber) ⌝ }
+    ensures { λ _. ⌜ now (block .exit) ≡ fill members (λ i. getD (now (block .entry)) i 0 + getD (now (counts .entry)) i 0) (now (block .entry)) ⌝ }
 {
     let mut i = 0;
     while i < House::MEMBERS {
@@ -227,7 +325,7 @@ fn add_counts(block: &mut [u32], counts: &[u16])
 
 // How many payments the counts are.
 pub fn tally(counts: &[u16]) -> u32
-    requires { ⌜ length (now counts) ≤ 64 ⌝ }
+    requires { ⌜ length (now counts) ≤ members ⌝ }
     ensures { λ r. ⌜ r ≡ sum (length (now (counts .entry))) (listed (now (counts .entry))) ⌝ }
 {
     let mut n = 0u32;

@@ -1,6 +1,6 @@
--- A release and a group book a set of counts if each member is covered then; a release is the booking of one.
-use mathlib.Core.Path.{_≡_, refl, sym, ap, subst, _∙_}
-use mathlib.Core.Bool.{Bool, true, false, not, cond, false≢true}
+-- A group books a set of counts if each member is covered then; a release books the head alone if balance + line reach its amount.
+use mathlib.Core.Path.{_≡_, refl, sym, ap, ap₂, _∙_}
+use mathlib.Core.Bool.{Bool, true, false, not}
 use mathlib.Core.Logic.{_↔_, _≢_}
 use mathlib.Core.List.{List, [], _∷_}
 use Prim.Native.Nat.{ℕ, _+_, _-_, _≤_, _<_}
@@ -9,33 +9,34 @@ use native.Mathlib.Omega.{arith}
 use borrow.Author.Tests.{leb-true, le-leb, eqb-true, eqb-false, eq-eqb, ne-eqb, not-false}
 use lib.Dec.{eqb, leb}
 use lib.IntN.{ℤ, pos, _+ℤ_}
-use lib.ListN.{length, List·getD-eq-default}
+use lib.Signed.{leZ}
+use lib.ListN.{length, getD, List·getD-eq-default}
+use mir.Syntax.{w64}
+use mir.Val.{SFits}
 use Rattle.rule.specs.Kernel.{Counts, none, sum, Under}
 use Rattle.rule.specs.Payment.{amountOf}
-use Rattle.rule.specs.Queue.{worth}
-use Rattle.rule.specs.House.{House, waits, sent, position, AllowedSet}
-use Rattle.rule.proofs.Sums.{sum-one, sum-zero}
-use Rattle.rule.proofs.Find.{put-at, put-other, put-all}
-use Rattle.rule.proofs.Steps.{worth-suc}
+use Rattle.rule.specs.House.{House, waits, position, AllowedSet}
+use Rattle.rule.proofs.Find.{put-other, put-all}
+use Rattle.rule.proofs.Ints.{ints, plus, ≤ℤ-is}
 use Rattle.rule.proofs.Demands.{release-covered}
-use Rattle.tables.specs.Layout.{Tables, membersIn, houseIn, lastOf, settledOf, balanceOf, lineOf}
+use Rattle.tables.specs.Sizes.{members, mostLine}
+use Rattle.tables.specs.Layout.{Tables, membersIn, waitingIn, houseIn, lastOf, settledOf, waitsOf, balanceOf, lineOf}
 use Rattle.tables.specs.State.{every}
 use Rattle.tables.specs.Holds.{Holds}
 use Rattle.tables.proofs.Tests.{and-both, and-of, le-true, true-le}
 use Rattle.tables.proofs.Every.{every-at, every-of}
+use Rattle.tables.proofs.Balances.{accounts-near}
 use Rattle.tables.proofs.Houses.{holds-sound, holds-proper, waits-is, line-is, no-queue}
-use Rattle.booking.specs.Booking.{listed, bookedIn, Counted}
+use Rattle.booking.specs.Booking.{listed, bookedIn, Counted, HeadAt}
+use Rattle.booking.proofs.Heads.{head-queue}
 use Rattle.booking.proofs.Kept.{Books, counts-sum}
 use Rattle.answers.specs.Codes.{test, first, isMember}
-use Rattle.answers.specs.Outcome.{Outcome, outcome, decided, held}
+use Rattle.answers.specs.Outcome.{outcome, held}
 use Rattle.answers.specs.declared.Refusal.the-variants.{Nothing, Cover, Counts as BadCounts}
 use Rattle.answers.specs.declared.Judged.the-variants.{Fine, Bad}
-use Rattle.answers.specs.declared.Grouped.{Grouped}
-use Rattle.answers.specs.declared.Grouped.the-variants.{Done, Refused}
-use Rattle.answers.specs.declared.Released.{Released}
 use Rattle.answers.specs.declared.Released.the-variants as releasing
 use Rattle.answers.proofs.Judging.{first-fine, member-in}
-use Rattle.answers.proofs.Outcomes.{held-same}
+use Rattle.answers.proofs.Outcomes.{held-fine, held-same}
 use Rattle.settling.specs.Release.{headAmount, headCovered, onlyHead, releaseAct}
 use Rattle.settling.specs.Group.{countAt, isCounts, countsFit, coverAt, isCovered, bookAct, groupAct}
 
@@ -63,7 +64,7 @@ module _ {T : Tables} (h : Holds T) (k : List ℕ) where
       (λ e. let b = and-both (eqb (length k) (membersIn T)) (every (countAt (houseIn T) k) (membersIn T)) e in rw (b .0) (every-of byCounters (membersIn T) (λ i q. back i q (every-at (countAt (houseIn T) k) (membersIn T) i (b .1) q))))
     where
       byCounters : ℕ → Bool
-      byCounters i = leb (listed k i) (lastOf (T .counters) i - settledOf (T .counters) i)
+      byCounters i = leb (listed k i) (waitsOf (T .counters) i)
 
       there : (i : ℕ) → i < membersIn T → byCounters i ≡ true → countAt (houseIn T) k i ≡ true
       there i q e = rw (waits-is h i (omega (arith, h .counters .few))) e
@@ -76,18 +77,18 @@ module _ {T : Tables} (h : Holds T) (k : List ℕ) where
   counts-length e = eqb-true (length k) (membersIn T) (and-both (eqb (length k) (membersIn T)) (every (countAt (houseIn T) k) (membersIn T)) e .0)
 
 -- no more was settled than was accepted
-pub settled-last : {T : Tables} → Holds T → (i : ℕ) → i < 64 → settledOf (T .counters) i ≤ lastOf (T .counters) i
+pub settled-last : {T : Tables} → Holds T → (i : ℕ) → i < members → settledOf (T .counters) i ≤ lastOf (T .counters) i
 settled-last h i q = omega (arith, h .numbers .each i q)
 
 -- ---- the answer of a booking that was tried
 
 -- past the members no payment is counted
-pub counted-zero : {T : Tables} {k : List ℕ} → Counted T k → (i : ℕ) → membersIn T ≤ i → i < 64 → listed k i ≡ 0
+pub counted-zero : {T : Tables} {k : List ℕ} → Counted T k → (i : ℕ) → membersIn T ≤ i → i < members → listed k i ≡ 0
 counted-zero {T} {k} d i h q =
     let e : waits (houseIn T) i ≡ 0 = ap length (no-queue (d .holds) i h) in
     omega (arith, d .within i q)
 
--- the tally of the 64 counts is how many payments the members settle
+-- the tally of the members counts is how many payments the members settle
 pub tally-members : {T : Tables} {k : List ℕ} → Counted T k → sum (length k) (listed k) ≡ sum (membersIn T) (listed k)
 tally-members {T} {k} d = rw (d .members) (counts-sum (membersIn T) (listed k) (d .holds .counters .few) (counted-zero d))
 
@@ -108,27 +109,19 @@ module _ {T : Tables} (h : Holds T) (k : List ℕ) where
   unfolding groupAct bookAct
   group-tried e = held-same (bookAct (listed k)) (groupAct k) T (λ r. refl) refl (group-tests e)
 
-  pub group-counted : (all : List ℕ) → isCounts (membersIn T) (houseIn T) k ≡ true → length all ≡ 64 → listed all ≡ listed k → Counted T all
+  pub group-counted : (all : List ℕ) → isCounts (membersIn T) (houseIn T) k ≡ true → length all ≡ members → listed all ≡ listed k → Counted T all
   group-counted all e l q = record { holds = h; members = l; within = λ i s. omega (arith, ap (λ (f : Counts). f i) q, go i s (decLt i (membersIn T))) }
     where
       b : (eqb (length k) (membersIn T) ≡ true) × (every (countAt (houseIn T) k) (membersIn T) ≡ true)
       b = and-both (eqb (length k) (membersIn T)) (every (countAt (houseIn T) k) (membersIn T)) e
 
-      go : (i : ℕ) → i < 64 → Dec (i < membersIn T) → listed k i ≤ waits (houseIn T) i
+      go : (i : ℕ) → i < members → Dec (i < membersIn T) → listed k i ≤ waits (houseIn T) i
       go i s (yes y) = leb-true (listed k i) (waits (houseIn T) i) (every-at (countAt (houseIn T) k) (membersIn T) i (b .1) y)
       go i s (no y) =
           let z : listed k i ≡ 0 = List·getD-eq-default k 0 (omega (arith, eqb-true (length k) (membersIn T) (b .0))) in
           omega arith
 
 -- ---- a release
-
--- the answer of a release, of the answer of its booking
-abbrev pub asReleased : ℕ → ℕ → Grouped → Released
-asReleased m n (Refused r) = releasing.Refused r
-asReleased m n (Done k s) = releasing.Done m n s
-
-abbrev pub releasedBy : ℕ → ℕ → Outcome Grouped → Outcome Released
-releasedBy m n o = outcome (asReleased m n (o .answer)) (o .after)
 
 module _ {T : Tables} (h : Holds T) (m : ℕ) (one : 1 ≤ m) (within : m ≤ membersIn T) where
   seat : m - 1 < membersIn T
@@ -143,12 +136,8 @@ module _ {T : Tables} (h : Holds T) (m : ℕ) (one : 1 ≤ m) (within : m ≤ me
   release-nothing e = rw (member, eq-eqb (waits (houseIn T) (m - 1)) 0 e)
 
   module _ (some : waits (houseIn T) (m - 1) ≢ 0) where
-    within-head : Under 64 (onlyHead m) (waits (houseIn T))
+    within-head : Under members (onlyHead m) (waits (houseIn T))
     within-head i q = put-all (λ j x. x ≤ waits (houseIn T) j) none (m - 1) 1 i (omega arith) (λ ne. omega arith)
-
-    -- the head alone can be tried,
-    pub head-counted : (all : List ℕ) → length all ≡ 64 → listed all ≡ onlyHead m → Counted T all
-    head-counted all l q = record { holds = h; members = l; within = λ i s. omega (arith, ap (λ (f : Counts). f i) q, within-head i s) }
 
     -- it is covered exactly when balance + line reach its amount,
     head-covered : isCovered (membersIn T) (houseIn T) (onlyHead m) ≡ headCovered T m
@@ -161,29 +150,39 @@ module _ {T : Tables} (h : Holds T) (m : ℕ) (one : 1 ≤ m) (within : m ≤ me
         (λ e. true-le x (balanceOf (T .accounts) (m - 1) +ℤ lineOf (T .accounts) (m - 1)) (rw l (r .0 (s .0 e))))
         (λ e. s .1 (r .1 (rw l at (le-true x (balanceOf (T .accounts) (m - 1) +ℤ lineOf (T .accounts) (m - 1)) e))))
 
-    -- and its amount is the sum of what leaves
-    head-sum : sum (membersIn T) (sent (houseIn T) (onlyHead m)) ≡ headAmount T m
-    unfolding sent worth
-    head-sum =
-        sum-one (membersIn T) (sent (houseIn T) (onlyHead m)) none (m - 1) (headAmount T m) seat
-        (rw put-at (worth-suc amountOf (houseIn T .queue (m - 1)) 0 (omega arith)))
-        (λ i q ne. rw (put-other none (m - 1) 1 i ne))
-        ∙ omega (arith, sum-zero (membersIn T))
+    -- and its place tells its amount x,
+    module _ {k x : ℕ} (g : HeadAt (waitingIn T) (T .pays) (m - 1) k) (t : x ≡ amountOf (getD (T .pays) k 0)) where
+      amount : headAmount T m ≡ x
+      amount = ap (λ (q : List ℕ). amountOf (getD q 0 0)) (head-queue (omega (arith, h .places .deep, h .counters .room)) g) ∙ sym t
 
-    -- so a release is the booking of one
-    pub release-tried : releasedBy m (settledOf (T .counters) (m - 1) + 1) (held (bookAct (onlyHead m)) T) ≡ held (releaseAct m) T
-    unfolding releaseAct bookAct held
-    release-tried = rw (member, ne-eqb (waits (houseIn T) (m - 1)) 0 some, ← head-covered) (go (isCovered (membersIn T) (houseIn T) (onlyHead m)))
-      where
-        go : (b : Bool) → releasedBy m (settledOf (T .counters) (m - 1) + 1) (decided (bookAct (onlyHead m)) T (first (test (not b) Cover ∷ [])))
-            ≡ decided (releaseAct m) T (first (test (not b) Cover ∷ []))
-        go true = ap (λ x. outcome (releasing.Done m (settledOf (T .counters) (m - 1) + 1) x) (bookedIn T (onlyHead m))) head-sum
-        go false = refl
+      tests : {b : Bool} → leZ (pos x) (balanceOf (T .accounts) (m - 1) +ℤ lineOf (T .accounts) (m - 1)) ≡ b
+          → first (releaseAct m .tests T) ≡ first (test (not b) Cover ∷ [])
+      unfolding releaseAct
+      tests {b} e =
+          let f : headCovered T m ≡ b = ap (λ y. leZ (pos y) (balanceOf (T .accounts) (m - 1) +ℤ lineOf (T .accounts) (m - 1))) amount ∙ e in
+          rw (member, ne-eqb (waits (houseIn T) (m - 1)) 0 some, f)
 
-    -- as the code has it: what the booking left, with its answer told as a release's
-    pub release-done : {g : Grouped} {W : Tables} {z : Counts} → z ≡ onlyHead m → outcome g W ≡ held (bookAct z) T
-        → outcome (asReleased m (settledOf (T .counters) (m - 1) + 1) g) W ≡ held (releaseAct m) T
-    release-done e f = ap (releasedBy m (settledOf (T .counters) (m - 1) + 1)) (f ∙ ap (λ (y : Counts). held (bookAct y) T) e) ∙ release-tried
+      -- by which it is refused,
+      pub release-short : leZ (pos x) (balanceOf (T .accounts) (m - 1) +ℤ lineOf (T .accounts) (m - 1)) ≡ false → first (releaseAct m .tests T) ≡ Bad Cover
+      release-short e = tests e
+
+      -- or booked
+      pub release-done : {n : ℕ} {W : Tables} → leZ (pos x) (balanceOf (T .accounts) (m - 1) +ℤ lineOf (T .accounts) (m - 1)) ≡ true
+          → n ≡ settledOf (T .counters) (m - 1) + 1 → W ≡ bookedIn T (onlyHead m) → outcome (releasing.Done m n x) W ≡ held (releaseAct m) T
+      unfolding releaseAct
+      release-done e q f =
+          ap₂ (λ y (U : Tables). outcome (releasing.Done m y x) U) q f
+          ∙ ap (λ y. outcome (releasing.Done m (settledOf (T .counters) (m - 1) + 1) y) (bookedIn T (onlyHead m))) (sym amount)
+          ∙ sym (held-fine (releaseAct m) T (tests e))
+
+  -- balance + line is in the range of an i64
+  pub cover-fits : SFits w64 (balanceOf (T .accounts) (m - 1) +ℤ lineOf (T .accounts) (m - 1))
+  cover-fits =
+      let n = accounts-near (h .accounts) (m - 1) (omega (arith, h .counters .few)) in
+      let o = h .accounts .holders (m - 1) seat in
+      let t1 = ≤ℤ-is (pos 0) (lineOf (T .accounts) (m - 1)) (o .line) in
+      let t2 = ≤ℤ-is (lineOf (T .accounts) (m - 1)) (pos mostLine) (o .small) in
+      omega (ints, plus (balanceOf (T .accounts) (m - 1)) (lineOf (T .accounts) (m - 1)), n .above, n .below)
 
 -- ---- what an accepted call books
 

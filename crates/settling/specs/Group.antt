@@ -1,14 +1,14 @@
 -- Group: that many from each head at once (document 01, "Group"; codes 1, 10, 9). k is the lent list of counts.
 use mathlib.Core.Bool.{Bool, not, _&&_}
 use mathlib.Core.List.{List, [], _∷_}
-use Prim.Native.Nat.{ℕ, _-_}
+use Prim.Native.Nat.{ℕ}
 use lib.Dec.{eqb, leb}
 use lib.IntN.{pos, _+ℤ_}
 use lib.Signed.{leZ}
 use lib.ListN.{length}
 use Rattle.rule.specs.Kernel.{Counts, sum}
 use Rattle.rule.specs.House.{House, waits, sent, position}
-use Rattle.tables.specs.Layout.{membersIn, houseIn, countOf, lastOf, settledOf}
+use Rattle.tables.specs.Layout.{membersIn, houseIn, countOf, waitsOf}
 use Rattle.tables.specs.State.{every}
 use Rattle.booking.specs.Booking.{listed, bookedIn}
 use Rattle.answers.specs.Codes.{test}
@@ -24,9 +24,9 @@ countAt H k i = leb (listed k i) (waits H i)
 abbrev pub isCounts : ℕ → House → List ℕ → Bool
 isCounts n H k = eqb (length k) n && every (countAt H k) n
 
--- the same, by the counters: last - settled wait
+-- the same, by the counters
 abbrev pub countsFit : List ℕ → List ℕ → Bool
-countsFit c k = eqb (length k) (countOf c) && every (λ i. leb (listed k i) (lastOf c i - settledOf c i)) (countOf c)
+countsFit c k = eqb (length k) (countOf c) && every (λ i. leb (listed k i) (waitsOf c i)) (countOf c)
 
 -- each member is covered if z is booked
 abbrev pub coverAt : ℕ → House → Counts → ℕ → Bool

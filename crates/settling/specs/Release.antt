@@ -6,11 +6,11 @@ use lib.Dec.{eqb}
 use lib.IntN.{pos, _+ℤ_}
 use lib.Signed.{leZ}
 use lib.ListN.{getD}
-use Rattle.rule.specs.Kernel.{Counts, none, put}
+use Rattle.rule.specs.Kernel.{Counts}
 use Rattle.rule.specs.Payment.{amountOf}
 use Rattle.rule.specs.House.{waits}
 use Rattle.tables.specs.Layout.{Tables, houseIn, settledOf, balanceOf, lineOf}
-use Rattle.booking.specs.Booking.{bookedIn}
+use Rattle.booking.specs.Booking.{headAlone, bookedIn}
 use Rattle.answers.specs.Codes.{test, isMember}
 use Rattle.answers.specs.Outcome.{Act, outcome}
 use Rattle.answers.specs.declared.Refusal.the-variants.{Member, Nothing, Cover}
@@ -27,7 +27,7 @@ headCovered T m = leZ (pos (headAmount T m)) (balanceOf (T .accounts) (m - 1) +�
 
 -- the head of member m alone is booked
 abbrev pub onlyHead : ℕ → Counts
-onlyHead m = put none (m - 1) 1
+onlyHead m = headAlone (m - 1)
 
 unfoldable pub releaseAct : ℕ → Act Released
 releaseAct m = record {

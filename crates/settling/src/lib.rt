@@ -1,14 +1,23 @@
-// Releases and groups, on tables that hold a state. A release is the booking of one.
+// Releases and groups, on tables that hold a state. A release books its head alone.
 use answers::Grouped;
 use answers::Refusal;
 use answers::Released;
 use answers::judge::is_member;
+use tables::House;
+use tables::look::waiting_of;
+use tables::steps::at_most;
+use tables::steps::plus;
+use tables::steps::signed;
 use tables::steps::wide;
 ghost use mathlib.Core.Path.{_≡_};
-ghost use Prim.Native.Nat.{ℕ, _+_, _-_, _<_, _≤_};
+ghost use Prim.Native.Nat.{ℕ, _+_, _<_, _≤_};
+ghost use lib.IntN.{pos, _+ℤ_};
+ghost use lib.Signed.{leZ};
 ghost use lib.ListN.{length};
-ghost use Rattle.rule.specs.Kernel.{none, put};
-ghost use Rattle.tables.specs.Layout.{tables, countOf, lastOf, settledOf};
+ghost use mir.Syntax.{w64};
+ghost use mir.Val.{SFits};
+ghost use Rattle.tables.specs.Sizes.{members, table, mostAmount};
+ghost use Rattle.tables.specs.Layout.{tables, countOf, lastOf, settledOf, balanceOf, lineOf};
 ghost use Rattle.tables.specs.Holds.{Holds};
 ghost use Rattle.booking.specs.Booking.{Counted, listed};
 ghost use Rattle.answers.specs.Outcome.{outcome, held};
@@ -33,38 +42,32 @@ pub fn release(
         return Released::Refused(Refusal::Nothing);
     }
     let number = head_number(counters, seat);
-    let head = one_of(seat);
-    let t = try_book(accounts, counters, pays, &head);
-    match t {
-        Grouped::Refused(r) => Released::Refused(r),
-        Grouped::Done(_, sum) => Released::Done(member, number, sum),
+    let at = booking::head_of(pays, wide(counters[1]), seat);
+    let amount = rule::amount_of(pays[at]);
+    if !reaches(accounts, seat, amount) {
+        return Released::Refused(Refusal::Cover);
     }
-}
-
-// How many payments a member has waiting.
-fn waiting_of(counters: &[u32], seat: usize) -> u32
-    requires { ⌜ (512 ≤ length (now counters)) × (seat < 64) × (settledOf (now counters) seat ≤ lastOf (now counters) seat) ⌝ }
-    ensures { λ r. ⌜ r ≡ lastOf (now (counters .entry)) seat - settledOf (now (counters .entry)) seat ⌝ }
-{
-    counters[64 + seat] - counters[128 + seat]
+    booking::book_head(accounts, counters, pays, seat, at);
+    Released::Done(member, number, amount)
 }
 
 // The number of a member's head payment.
 fn head_number(counters: &[u32], seat: usize) -> u64
-    requires { ⌜ (512 ≤ length (now counters)) × (seat < 64) ⌝ }
+    requires { ⌜ (table ≤ length (now counters)) × (seat < members) ⌝ }
     ensures { λ r. ⌜ r ≡ settledOf (now (counters .entry)) seat + 1 ⌝ }
 {
-    wide(counters[128 + seat]) as u64 + 1
+    wide(counters[House::SETTLED_AT + seat]) as u64 + 1
 }
 
-// The counts of one member's head alone.
-fn one_of(seat: usize) -> [u16; 64]
-    requires { ⌜ seat < 64 ⌝ }
-    ensures { λ r. ⌜ (length r ≡ 64) × (listed r ≡ put none seat 1) ⌝ }
+// Whether a member's balance and line reach an amount.
+fn reaches(accounts: &[i64], seat: usize, amount: u64) -> bool
+    requires { ⌜ (table ≤ length (now accounts)) × (seat < members) × SFits w64 (balanceOf (now accounts) seat +ℤ lineOf (now accounts) seat) × (amount ≤ mostAmount) ⌝ }
+    ensures { λ r. ⌜ r ≡ leZ (pos amount) (balanceOf (now (accounts .entry)) seat +ℤ lineOf (now (accounts .entry)) seat) ⌝ }
 {
-    let mut counts = [0u16; 64];
-    counts[seat] = 1;
-    counts
+    at_most(
+        signed(amount),
+        plus(accounts[seat], accounts[House::LINES_AT + seat]),
+    )
 }
 
 // Settles that many payments from each head at once, if the set is allowed.
@@ -86,8 +89,8 @@ pub fn group(
 
 // The list is as long as the member count, and no count is above what waits.
 fn are_counts(counters: &[u32], counts: &[u16]) -> bool
-    requires { ⌜ (512 ≤ length (now counters)) × (countOf (now counters) ≤ 64) ⌝ }
-    requires { ⌜ ((i : ℕ) → i < 64 → settledOf (now counters) i ≤ lastOf (now counters) i) ⌝ }
+    requires { ⌜ (table ≤ length (now counters)) × (countOf (now counters) ≤ members) ⌝ }
+    requires { ⌜ ((i : ℕ) → i < members → settledOf (now counters) i ≤ lastOf (now counters) i) ⌝ }
     ensures { λ r. ⌜ r ≡ countsFit (now (counters .entry)) (now (counts .entry)) ⌝ }
 {
     let n = wide(counters[0]);
@@ -96,8 +99,7 @@ fn are_counts(counters: &[u32], counts: &[u16]) -> bool
     }
     let mut i = 0;
     while i < n {
-        let waits = counters[64 + i] - counters[128 + i];
-        if counts[i] as u32 > waits {
+        if counts[i] as u32 > waiting_of(counters, i) {
             return false;
         }
         i += 1;
@@ -105,12 +107,12 @@ fn are_counts(counters: &[u32], counts: &[u16]) -> bool
     true
 }
 
-// Counts for 64 members, 0 past the list's end.
-fn widened(counts: &[u16]) -> [u16; 64]
-    requires { ⌜ length (now counts) ≤ 64 ⌝ }
-    ensures { λ r. ⌜ (length r ≡ 64) × (listed r ≡ listed (now (counts .entry))) ⌝ }
+// A count for each member of the largest house, 0 past the list's end.
+fn widened(counts: &[u16]) -> [u16; House::MEMBERS]
+    requires { ⌜ length (now counts) ≤ members ⌝ }
+    ensures { λ r. ⌜ (length r ≡ members) × (listed r ≡ listed (now (counts .entry))) ⌝ }
 {
-    let mut all = [0u16; 64];
+    let mut all = [0u16; House::MEMBERS];
     let mut i = 0;
     while i < counts.len() {
         all[i] = counts[i];

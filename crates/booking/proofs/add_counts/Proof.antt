@@ -3,18 +3,19 @@ use Prim.Native.Nat.{_+_, _-_}
 use native.Mathlib.Omega.{arith}
 use lib.ListN.{getD}
 use borrow.Author.Needs.{needs}
+use Rattle.tables.specs.Sizes.{members}
 use Rattle.booking.proofs.Filling.{Filling, filling-start, filling-here, filling-turn, filling-end}
 use Rattle.booking.proofs.add_counts.Statement.{statement}
 use Rattle.booking.proofs.add_counts.Tie as tie
 
 abbrev Inv-loop : tie.InvT-loop
-Inv-loop block₀ counts i₀ block i = Filling 64 (λ k. getD block₀ k 0 + getD counts k 0) block₀ block i
+Inv-loop block₀ counts i₀ block i = Filling members (λ k. getD block₀ k 0 + getD counts k 0) block₀ block i
 
 abbrev μ-loop : tie.MeasureT-loop
-μ-loop block₀ counts i₀ block i = 64 - i
+μ-loop block₀ counts i₀ block i = members - i
 
 loop-holds : tie.Need-loop-holds Inv-loop μ-loop
-loop-holds c = filling-start 64 _ _ (omega arith)
+loop-holds c = filling-start members _ _ (omega arith)
 
 mul-block : tie.Need-mul-block Inv-loop μ-loop
 mul-block c = search needs

@@ -5,19 +5,20 @@ use lib.IntN.{pos}
 use borrow.Author.Needs.{needs}
 use Rattle.rule.proofs.Ints.{plain}
 use Rattle.rule.proofs.Lists.{fill-at}
+use Rattle.tables.specs.Sizes.{members}
 use Rattle.tables.specs.Layout.{balanceOf}
 use Rattle.booking.proofs.Filling.{Filling, filling-start, filling-turn, filling-end}
 use Rattle.booking.proofs.balances.Statement.{statement}
 use Rattle.booking.proofs.balances.Tie as tie
 
 abbrev Inv-loop : tie.InvT-loop
-Inv-loop accounts r₀ i₀ r i = Filling 64 (balanceOf accounts) r₀ r i
+Inv-loop accounts r₀ i₀ r i = Filling members (balanceOf accounts) r₀ r i
 
 abbrev μ-loop : tie.MeasureT-loop
-μ-loop accounts r₀ i₀ r i = 64 - i
+μ-loop accounts r₀ i₀ r i = members - i
 
 loop-holds : tie.Need-loop-holds Inv-loop μ-loop
-loop-holds c = filling-start 64 (balanceOf (c .args .accounts .now)) _ (omega arith)
+loop-holds c = filling-start members (balanceOf (c .args .accounts .now)) _ (omega arith)
 
 mul-r : tie.Need-mul-r Inv-loop μ-loop
 mul-r c = search needs
@@ -41,7 +42,7 @@ loop-again : tie.Need-loop-again Inv-loop μ-loop
 loop-again c = let g = c .r .given in filling-turn (c .before .before .loop .inv) (omega arith) _ (simp plain)
 
 returns : tie.Need-returns Inv-loop μ-loop
-returns c i h = rw (filling-end (c .before .loop .inv) (omega arith)) (fill-at _ _ 64 i (pos 0) h)
+returns c i h = rw (filling-end (c .before .loop .inv) (omega arith)) (fill-at _ _ members i (pos 0) h)
 
 pub balances-spec : {M : Type 1} → statement M
 balances-spec =

@@ -6,6 +6,7 @@ use Prim.Native.Nat.{_<_, _-_}
 use native.Mathlib.Omega.{arith}
 use lib.ListN.{getD}
 use borrow.Author.Needs.{needs}
+use Rattle.tables.specs.Sizes.{members}
 use Rattle.finder.proofs.Tops.{payer-under}
 use Rattle.booking.specs.Steps.{Ends}
 use Rattle.booking.proofs.Closing.{Closing, closing-start, closing-small, closing-keep, closing-more, closing-go, closing-sum, closing-end}
@@ -38,7 +39,7 @@ slice-read-w c = search needs
 payer-of-requires : tie.Need-payer-of-requires Inv-loop μ-loop
 payer-of-requires c κs = search needs
 
-seat : (c : tie.After-payer-of Inv-loop μ-loop) → c .payer-of .result < 64
+seat : (c : tie.After-payer-of Inv-loop μ-loop) → c .payer-of .result < members
 seat c = omega (arith, payer-under (getD (c .before .before .before .loop .pays) (c .before .before .before .loop .from) 0))
 
 mul-z : tie.Need-mul-z Inv-loop μ-loop

@@ -10,7 +10,8 @@ use borrow.Rule.Slice.PartMut.{putMid}
 use Rattle.rule.specs.Lists.{fillAt}
 use Rattle.rule.specs.Kernel.{sum}
 use Rattle.rule.proofs.Lists.{before-fill}
-use Rattle.tables.specs.Layout.{waitingOf, settledOf}
+use Rattle.tables.specs.Sizes.{members}
+use Rattle.tables.specs.Layout.{waitingOf, settledOf, settledAt}
 use Rattle.booking.specs.Booking.{listed}
 use Rattle.booking.proofs.Filling.{fill-part}
 use Rattle.booking.proofs.count_off.Statement.{statement}
@@ -25,13 +26,13 @@ part-add-counts-start c = search needs
 part-add-counts-end : tie.Need-part-add-counts-end
 part-add-counts-end c = search needs
 
-block : (c : List ℕ) (i : ℕ) → i < 64 → getD (take 64 (drop 128 c)) i 0 ≡ settledOf c i
-block c i h = getD-take 64 (drop 128 c) i 0 h ∙ getD-drop 128 c i 0
+block : (c : List ℕ) (i : ℕ) → i < members → getD (take members (drop settledAt c)) i 0 ≡ settledOf c i
+block c i h = getD-take members (drop settledAt c) i 0 h ∙ getD-drop settledAt c i 0
 
 add-counts-requires : tie.Need-add-counts-requires
 add-counts-requires c κs =
     let s = c .before .before .before in
-    ((length-take-le 64 (drop 128 (s .args .counters .now)) (simp length-drop (omega (arith, s .pre .broad))), s .pre .members), λ i h. rw (block (s .args .counters .now) i h) (s .pre .settles i h))
+    ((length-take-le members (drop settledAt (s .args .counters .now)) (simp length-drop (omega (arith, s .pre .broad))), s .pre .members), λ i h. rw (block (s .args .counters .now) i h) (s .pre .settles i h))
 
 tally-requires : tie.Need-tally-requires
 tally-requires c κs = search needs
@@ -40,25 +41,25 @@ slice-read-counters : tie.Need-slice-read-counters
 slice-read-counters c = search needs
 
 -- the block put back
-settled : (c : tie.After-add-counts) → putMid 128 64 (c .before .before .before .before .args .counters .now) (c .add-counts .last .0)
-    ≡ fillAt 128 64 (λ i. settledOf (c .before .before .before .before .args .counters .now) i + listed (c .before .before .before .before .args .counts .now) i) (c .before .before .before .before .args .counters .now)
+settled : (c : tie.After-add-counts) → putMid settledAt members (c .before .before .before .before .args .counters .now) (c .add-counts .last .0)
+    ≡ fillAt settledAt members (λ i. settledOf (c .before .before .before .before .args .counters .now) i + listed (c .before .before .before .before .args .counts .now) i) (c .before .before .before .before .args .counters .now)
 unfolding fillAt
 settled c =
     let l = c .before .before .before .before .args .counters .now in
     let k = c .before .before .before .before .args .counts .now in
-    ap (λ r. take 128 l ++ r) (ap (λ r. r ++ drop 64 (drop 128 l)) (c .add-counts .ensures)
-    ∙ fill-part 0 64 _ (λ i. settledOf l i + listed k i) (drop 128 l) (simp length-drop (omega (arith, c .before .before .before .before .pre .broad))) (λ i h. ap (λ n. n + listed k i) (block l i h)))
+    ap (λ r. take settledAt l ++ r) (ap (λ r. r ++ drop members (drop settledAt l)) (c .add-counts .ensures)
+    ∙ fill-part 0 members _ (λ i. settledOf l i + listed k i) (drop settledAt l) (simp length-drop (omega (arith, c .before .before .before .before .pre .broad))) (λ i h. ap (λ n. n + listed k i) (block l i h)))
 
-counted : (c : tie.After-tally) → c .tally .result ≡ sum 64 (listed (c .before .before .before .before .before .before .before .args .counts .now))
+counted : (c : tie.After-tally) → c .tally .result ≡ sum members (listed (c .before .before .before .before .before .before .before .args .counts .now))
 counted c = let s = c .before .before .before .before .before .before .before in c .tally .ensures ∙ ap (λ n. sum n (listed (s .args .counts .now))) (s .pre .members)
 
 -- the block is not where the waiting are counted
-waiting : (c : tie.After-tally) → getD (putMid 128 64 (c .before .before .before .before .before .before .before .args .counters .now) (c .before .before .before .add-counts .last .0)) 1 0
+waiting : (c : tie.After-tally) → getD (putMid settledAt members (c .before .before .before .before .before .before .before .args .counters .now) (c .before .before .before .add-counts .last .0)) 1 0
     ≡ waitingOf (c .before .before .before .before .before .before .before .args .counters .now)
 waiting c =
     let s = c .before .before .before .before .before .before .before in
     ap (λ l. getD l 1 0) (settled (c .before .before .before))
-    ∙ before-fill 128 64 (λ i. settledOf (s .args .counters .now) i + listed (s .args .counts .now) i) (s .args .counters .now) (omega (arith, s .pre .broad)) 1 0 (omega arith)
+    ∙ before-fill settledAt members (λ i. settledOf (s .args .counters .now) i + listed (s .args .counts .now) i) (s .args .counters .now) (omega (arith, s .pre .broad)) 1 0 (omega arith)
 
 sub-counters : tie.Need-sub-counters
 sub-counters c =

@@ -7,6 +7,7 @@ use lib.Signed.{ltZ}
 use lib.ListN.{getD}
 use borrow.Author.Needs.{needs}
 use Rattle.rule.proofs.Ints.{plain}
+use Rattle.tables.specs.Sizes.{members}
 use Rattle.tables.specs.Layout.{countOf, lineOf}
 use Rattle.tables.proofs.Every.{Passed, every-start, every-more, every-fail, every-end}
 use Rattle.booking.specs.Booking.{coveredAt, coveredAll}
@@ -32,7 +33,7 @@ loop-holds c = every-start
 member : (c : tie.In-loop Inv-loop μ-loop) → c .before .loop .i < countOf (c .before .before .before .before .before .args .counters .now)
 member c = omega arith
 
-seat : (c : tie.In-loop Inv-loop μ-loop) → c .before .loop .i < 64
+seat : (c : tie.In-loop Inv-loop μ-loop) → c .before .loop .i < members
 seat c = omega (arith, member c, c .before .before .before .before .before .pre .0 .0 .few)
 
 mul-is-short : tie.Need-mul-is-short Inv-loop μ-loop

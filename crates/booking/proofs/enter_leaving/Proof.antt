@@ -6,6 +6,7 @@ use Prim.Native.Nat.{_<_, _-_}
 use native.Mathlib.Omega.{arith}
 use lib.ListN.{getD}
 use borrow.Author.Needs.{needs}
+use Rattle.tables.specs.Sizes.{members}
 use Rattle.finder.proofs.Tops.{payer-under}
 use Rattle.booking.specs.Steps.{Ends}
 use Rattle.booking.proofs.Entering.{Underway, underway-start, underway-steady, underway-stay, underway-more, underway-leave, underway-end}
@@ -36,7 +37,7 @@ shared-slice-read-w c = omega (arith, c .before .before .before .before .before 
 payer-of-requires : tie.Need-payer-of-requires Inv-loop μ-loop
 payer-of-requires c κs = search needs
 
-seat : (c : tie.After-payer-of Inv-loop μ-loop) → c .payer-of .result < 64
+seat : (c : tie.After-payer-of Inv-loop μ-loop) → c .payer-of .result < members
 seat c = omega (arith, payer-under (getD (c .before .before .before .before .before .before .before .before .before .args .pays .now) (c .before .before .before .loop .i) 0))
 
 mul-z : tie.Need-mul-z Inv-loop μ-loop

@@ -5,18 +5,19 @@ use lib.IntN.{pos}
 use lib.ListN.{getD}
 use borrow.Author.Needs.{needs}
 use Rattle.rule.proofs.Ints.{plain}
+use Rattle.tables.specs.Sizes.{members}
 use Rattle.booking.proofs.Filling.{Filling, filling-start, filling-turn, filling-end}
 use Rattle.booking.proofs.store.Statement.{statement}
 use Rattle.booking.proofs.store.Tie as tie
 
 abbrev Inv-loop : tie.InvT-loop
-Inv-loop accounts₀ positions i₀ accounts i = Filling 64 (λ k. getD positions k (pos 0)) accounts₀ accounts i
+Inv-loop accounts₀ positions i₀ accounts i = Filling members (λ k. getD positions k (pos 0)) accounts₀ accounts i
 
 abbrev μ-loop : tie.MeasureT-loop
-μ-loop accounts₀ positions i₀ accounts i = 64 - i
+μ-loop accounts₀ positions i₀ accounts i = members - i
 
 loop-holds : tie.Need-loop-holds Inv-loop μ-loop
-loop-holds c = filling-start 64 _ _ (omega arith)
+loop-holds c = filling-start members _ _ (omega arith)
 
 mul-accounts : tie.Need-mul-accounts Inv-loop μ-loop
 mul-accounts c = search needs

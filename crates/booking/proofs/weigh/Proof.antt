@@ -2,6 +2,7 @@
 use borrow.Author.Needs.{needs}
 use mathlib.Core.Path.{_≡_, ap, _∙_}
 use lib.ListN.{length}
+use Rattle.tables.specs.Sizes.{members}
 use Rattle.booking.proofs.Entering.{weighed, can-enter}
 use Rattle.booking.proofs.weigh.Statement.{statement}
 use Rattle.booking.proofs.weigh.Tie as tie
@@ -28,14 +29,14 @@ enter-leaving-requires : tie.Need-enter-leaving-requires
 enter-leaving-requires c κs =
     let s = c .before .before .before .before .before .before .before .before .before in
     let b = c .before .before .before .before .before .balances in
-    let m : length (b .result) ≡ 64 = search needs in
+    let m : length (b .result) ≡ members = search needs in
     (rw (c .before .before .wide .ensures) (can-enter (s .pre) (b .result) m (b .ensures)), ap length (c .before .before .before .before .copied .ensures) ∙ s .pre .members)
 
 returns : tie.Need-returns
 returns c =
     let s = c .before .before .before .before .before .before .before .before .before .before .before .before in
     let b = c .before .before .before .before .before .before .before .before .balances in
-    let m : length (b .result) ≡ 64 = search needs in
+    let m : length (b .result) ≡ members = search needs in
     rw (c .before .before .enter-leaving .ensures, c .before .before .before .before .before .before .before .copied .ensures, c .before .before .before .before .before .wide .ensures) (weighed (s .pre) (b .result) m (b .ensures))
 
 pub weigh-spec : {M : Type 1} → statement M

@@ -1,4 +1,4 @@
--- `settling::group` meets its contract: no loop; the counts, widened to 64 members, are tried.
+-- `settling::group` meets its contract: no loop; the counts, widened to all seats, are tried.
 use borrow.Author.Needs.{needs}
 use mathlib.Core.Path.{_≡_, sym, ap, _∙_}
 use mathlib.Core.Bool.{true}

@@ -2,6 +2,7 @@
 use borrow.Author.Needs.{needs}
 use Prim.Native.Nat.{_+_}
 use native.Mathlib.Omega.{arith}
+use Rattle.tables.specs.Layout.{settledAt}
 use Rattle.settling.proofs.head_number.Statement.{statement}
 use Rattle.settling.proofs.head_number.Tie as tie
 
@@ -18,7 +19,7 @@ wide-requires : tie.Need-wide-requires
 wide-requires c κs = search needs
 
 add-result : tie.Need-add-result
-add-result c = omega (arith, c .wide .ensures, c .before .shared-slice-known2 .given (128 + c .before .before .before .args .seat))
+add-result c = omega (arith, c .wide .ensures, c .before .shared-slice-known2 .given (settledAt + c .before .before .before .args .seat))
 
 returns : tie.Need-returns
 returns c = search needs
