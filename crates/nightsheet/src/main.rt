@@ -1,23 +1,46 @@
 // Reads a day file on standard input and writes its sheet on standard output. What is said stands there before more input is awaited.
 use sheet::State;
 ghost use mathlib.Core.Path.{_≡_};
+ghost use mathlib.Core.Bool.{cond, _&&_};
 ghost use Prim.Native.Nat.{_≤_};
-ghost use lib.ListN.{length};
-ghost use Rattle.cut.specs.Lines.{mostBytes};
+ghost use lib.Dec.{ltb};
+ghost use lib.IntN.{pos};
+ghost use lib.Signed.{ltZ};
+ghost use lib.ListN.{length, take};
 ghost use Rattle.tables.specs.Layout.{tables};
-ghost use Rattle.sheet.specs.Feeding.{Fit};
-ghost use Rattle.nightsheet.specs.Sizes.{outBytes, Lent};
+ghost use Rattle.sheet.specs.Sheet.{morning};
+ghost use Rattle.nightsheet.specs.declared.Next.the-variants.{Close, Failed};
+ghost use Rattle.nightsheet.specs.Steps.{outBytes, Memory, Ready, isOn, takenAs, Took, fedNext, closedNext, Wrote, deskIn, Ate, Closed, Stood};
 
 // The bytes that are read at once, and those of the output that is written at once.
 const OUT: usize = 4096;
 
-// The night so far, and whether all went well with reading and writing.
-struct Run {
-    is_fine: bool,
-    state: State,
+// What comes next: a chunk is read, what is left of it is eaten, or the night is closed; or nothing, since the night is over, or reading or
+// writing failed.
+pub enum Next {
+    Read,
+    Eat,
+    Close,
+    Done,
+    Failed,
+}
+
+// Between two steps: got bytes of the chunk were read, and those before at are eaten; and the night there.
+pub struct Run {
+    pub next: Next,
+    pub at: usize,
+    pub got: usize,
+    pub state: State,
 }
 
 fn main() {
+    if os::arg_count() > 1 {
+        io::write_all(
+            2,
+            b"usage: nightsheet < DAYFILE\nReads a day file on standard input and writes its sheet on standard output.\n",
+        );
+        return;
+    }
     let mut chunk = [0u8; OUT];
     let mut buf = [0u8; cut::MOST_BYTES];
     let mut counts = [0u64; 64];
@@ -36,7 +59,7 @@ fn main() {
     );
 }
 
-// The whole night. Where reading or writing failed, nothing more is said on the sheet.
+// The whole night, step by step.
 fn whole(
     chunk: &mut [u8],
     buf: &mut [u8],
@@ -45,19 +68,41 @@ fn whole(
     counters: &mut [u32],
     pays: &mut [u64],
     out: &mut [u8],
-)
-    requires { ⌜ Lent (now buf) (now counts) (now out) × (length (now accounts) ≡ 512) × (length (now counters) ≡ 512) × (length (now pays) ≡ 2048) ⌝ }
+) -> Run
+    requires { ⌜ Memory (now chunk) (now buf) (now counts) (tables (now accounts) (now counters) (now pays)) (now out) × (tables (now accounts) (now counters) (now pays) ≡ morning .tables) ⌝ }
+    ensures { λ r. ⌜ Stood (r .next) r (now (chunk .exit)) (now (buf .exit)) (tables (now (accounts .exit)) (now (counters .exit)) (now (pays .exit))) (now (out .exit)) ⌝ }
 {
     let s = sheet::start();
-    let r = read_all(chunk, buf, counts, accounts, counters, pays, out, s);
-    if r.is_fine {
-        let t = r.state;
-        close_all(buf, counts, accounts, counters, pays, out, t);
+    let mut r = Run {
+        next: Next::Read,
+        at: 0,
+        got: 0,
+        state: s,
+    };
+    let mut turns = u64::MAX;
+    while goes_on(r, turns) {
+        r = step(chunk, buf, counts, accounts, counters, pays, out, r);
+        turns -= 1;
+    }
+    r
+}
+
+// Whether a step follows. A proved loop has to end, and nothing says that the input does: so steps are counted.
+fn goes_on(r: Run, turns: u64) -> bool
+    ensures { λ x. ⌜ x ≡ (isOn (r .next) && ltb 0 turns) ⌝ }
+{
+    let next = r.next;
+    match next {
+        Next::Read => turns > 0,
+        Next::Eat => turns > 0,
+        Next::Close => turns > 0,
+        Next::Done => false,
+        Next::Failed => false,
     }
 }
 
-// Chunks of the input, until it ends, the night is over, or reading or writing fails.
-fn read_all(
+// One step. Of what a session of the night was before it is one after it.
+fn step(
     chunk: &mut [u8],
     buf: &mut [u8],
     counts: &mut [u64],
@@ -65,37 +110,75 @@ fn read_all(
     counters: &mut [u32],
     pays: &mut [u64],
     out: &mut [u8],
-    s: State,
+    r: Run,
 ) -> Run
-    requires { ⌜ Lent (now buf) (now counts) (now out) × Fit s (tables (now accounts) (now counters) (now pays)) outBytes ⌝ }
-    ensures { λ r. ⌜ Fit (r .state) (tables (now (accounts .exit)) (now (counters .exit)) (now (pays .exit))) outBytes ⌝ }
+    requires { ⌜ Memory (now chunk) (now buf) (now counts) (tables (now accounts) (now counters) (now pays)) (now out) × Stood (r .next) r (now chunk) (now buf) (tables (now accounts) (now counters) (now pays)) (now out) ⌝ }
+    ensures { λ x. ⌜ Stood (x .next) x (now (chunk .exit)) (now (buf .exit)) (tables (now (accounts .exit)) (now (counters .exit)) (now (pays .exit))) (now (out .exit)) ⌝ }
 {
-    let mut r = Run {
-        is_fine: true,
-        state: s,
-    };
-    let mut turns = u64::MAX;
-    while turns > 0 {
-        let got = libc::read(0, chunk);
-        if got < 0 {
-            return failed(b"nightsheet: cannot read\n", r);
+    let next = r.next;
+    match next {
+        Next::Read => {
+            return read_on(chunk, r);
         }
-        if got == 0 {
+        Next::Eat => {
+            return eat_on(chunk, buf, counts, accounts, counters, pays, out, r);
+        }
+        Next::Close => {
+            return close_on(chunk, buf, counts, accounts, counters, pays, out, r);
+        }
+        Next::Done => {
             return r;
         }
-        let n = io::count(got, chunk);
-        let u = r.state;
-        r = eat_all(&chunk[..n], buf, counts, accounts, counters, pays, out, u);
-        if is_done(r) {
+        Next::Failed => {
             return r;
         }
-        turns -= 1;
     }
-    r
 }
 
-// One chunk, written out as often as the output is full, and in the end.
-fn eat_all(
+// Reads a chunk: what the read answered and put there comes next.
+fn read_on(chunk: &mut [u8], r: Run) -> Run
+    ensures { λ x. ⌜ Took x (r .state) (length (now (chunk .exit))) ⌝ }
+{
+    let got = libc::read(0, chunk);
+    taken(got, chunk, r)
+}
+
+// A read was answered with got, and its bytes are at the start of the chunk: they are eaten next, or the input is at its end, or reading failed.
+fn taken(got: isize, chunk: &[u8], r: Run) -> Run
+    ensures { λ x. ⌜ x ≡ takenAs got (length (now (chunk .entry))) (r .state) ⌝ }
+{
+    let s = r.state;
+    let n = io::count(got, chunk);
+    if n > 0 {
+        return Run {
+            next: Next::Eat,
+            at: 0,
+            got: n,
+            state: s,
+        };
+    }
+    let next = ended(got);
+    Run {
+        next,
+        at: 0,
+        got: 0,
+        state: s,
+    }
+}
+
+// A read that put nothing into the chunk failed, or the input is at its end.
+fn ended(got: isize) -> Next
+    ensures { λ x. ⌜ x ≡ cond (ltZ got (pos 0)) Failed Close ⌝ }
+{
+    if got < 0 {
+        io::write_all(2, b"nightsheet: cannot read\n");
+        return Next::Failed;
+    }
+    Next::Close
+}
+
+// What is left of the chunk is eaten, as far as the output has room, and what it says is written out.
+fn eat_on(
     chunk: &[u8],
     buf: &mut [u8],
     counts: &mut [u64],
@@ -103,102 +186,116 @@ fn eat_all(
     counters: &mut [u32],
     pays: &mut [u64],
     out: &mut [u8],
-    s: State,
+    r: Run,
 ) -> Run
-    requires { ⌜ Lent (now buf) (now counts) (now out) × Fit s (tables (now accounts) (now counters) (now pays)) outBytes ⌝ }
-    ensures { λ r. ⌜ Fit (r .state) (tables (now (accounts .exit)) (now (counters .exit)) (now (pays .exit))) outBytes ⌝ }
+    requires { ⌜ Memory (now chunk) (now buf) (now counts) (tables (now accounts) (now counters) (now pays)) (now out) × Ready r (now chunk) (tables (now accounts) (now counters) (now pays)) ⌝ }
+    ensures { λ x. ⌜ Ate (deskIn r (now (chunk .entry)) (now (buf .entry)) (tables (now (accounts .entry)) (now (counters .entry)) (now (pays .entry))) (now (out .entry))) x (now (chunk .entry)) (now (buf .exit)) (tables (now (accounts .exit)) (now (counters .exit)) (now (pays .exit))) (now (out .exit)) ⌝ }
 {
-    let mut r = Run {
-        is_fine: true,
-        state: s,
+    let got = r.got;
+    let s = r.state;
+    let t = sheet::feed(
+        &chunk[..got],
+        r.at,
+        buf,
+        counts,
+        accounts,
+        counters,
+        pays,
+        out,
+        s,
+    );
+    let v = t.state;
+    let next = fed_next(v);
+    let e = Run {
+        next,
+        at: t.at,
+        got,
+        state: v,
     };
-    let mut at = 0usize;
-    let mut turns = u64::MAX;
-    while turns > 0 {
-        let u = r.state;
-        let t = sheet::feed(chunk, at, buf, counts, accounts, counters, pays, out, u);
-        at = t.at;
-        let v = t.state;
-        let full = is_full(v);
-        r = write_out(out, v);
-        if !r.is_fine {
-            return r;
-        }
-        if !full {
-            return r;
-        }
-        turns -= 1;
-    }
-    r
+    write_out(out, e)
 }
 
-// The end of the input, written out as often as the output is full, and in the end.
-fn close_all(
+// After a chunk was fed: the night is over, the output was full, or all is eaten.
+fn fed_next(s: State) -> Next
+    requires { ⌜ s .used ≤ outBytes ⌝ }
+    ensures { λ x. ⌜ x ≡ fedNext s ⌝ }
+{
+    let stage = s.stage;
+    if sheet::is_over(stage) {
+        return Next::Done;
+    }
+    if print::has_room(s.used, OUT) {
+        return Next::Read;
+    }
+    Next::Eat
+}
+
+// The input is at its end: the night is closed, as far as the output has room, and what it says is written out.
+fn close_on(
+    chunk: &[u8],
     buf: &[u8],
     counts: &mut [u64],
     accounts: &mut [i64],
     counters: &mut [u32],
     pays: &mut [u64],
     out: &mut [u8],
-    s: State,
-)
-    requires { ⌜ Lent (now buf) (now counts) (now out) × Fit s (tables (now accounts) (now counters) (now pays)) outBytes ⌝ }
+    r: Run,
+) -> Run
+    requires { ⌜ Memory (now chunk) (now buf) (now counts) (tables (now accounts) (now counters) (now pays)) (now out) × Ready r (now chunk) (tables (now accounts) (now counters) (now pays)) ⌝ }
+    ensures { λ x. ⌜ Closed (deskIn r (now (chunk .entry)) (now (buf .entry)) (tables (now (accounts .entry)) (now (counters .entry)) (now (pays .entry))) (now (out .entry))) x (now (chunk .entry)) (now (buf .entry)) (tables (now (accounts .exit)) (now (counters .exit)) (now (pays .exit))) (now (out .exit)) ⌝ }
 {
-    let mut u = s;
-    let mut turns = u64::MAX;
-    while turns > 0 {
-        u = sheet::close(buf, counts, accounts, counters, pays, out, u);
-        let r = write_out(out, u);
-        if is_done(r) {
-            return;
-        }
-        u = r.state;
-        turns -= 1;
-    }
-}
-
-// Less than 80 bytes are left.
-fn is_full(s: State) -> bool
-    requires { ⌜ s .used ≤ outBytes ⌝ }
-{
-    !print::has_room(s.used, OUT)
-}
-
-// Nothing more is to be read or said: the night is over, or something failed.
-fn is_done(r: Run) -> bool {
-    if !r.is_fine {
-        return true;
-    }
     let s = r.state;
-    let stage = s.stage;
-    sheet::is_over(stage)
-}
-
-// Writes out what is used of the output.
-fn write_out(out: &[u8], s: State) -> Run
-    requires { ⌜ (length (now out) ≡ outBytes) × (s .used ≤ outBytes) ⌝ }
-    ensures { λ r. ⌜ r .state ≡ record { lines = s .lines; stage = s .stage; used = 0; cut = s .cut } ⌝ }
-{
-    let used = s.used;
-    let t = sheet::flushed(s);
-    let r = Run {
-        is_fine: true,
-        state: t,
+    let v = sheet::close(buf, counts, accounts, counters, pays, out, s);
+    let next = closed_next(v);
+    let e = Run {
+        next,
+        at: r.at,
+        got: r.got,
+        state: v,
     };
-    if io::write_all(1, &out[..used]) {
-        return r;
-    }
-    failed(b"nightsheet: cannot write\n", r)
+    write_out(out, e)
 }
 
-// Says on standard error what failed.
-fn failed(message: &[u8], r: Run) -> Run
-    ensures { λ f. ⌜ f .state ≡ r .state ⌝ }
+// After a turn at the end of the input: the night is over, or the output was full.
+fn closed_next(s: State) -> Next
+    ensures { λ x. ⌜ x ≡ closedNext s ⌝ }
 {
-    io::write_all(2, message);
-    let s = r.state;
-    Run {
-        is_fine: false,
-        state: s,
+    let stage = s.stage;
+    if sheet::is_over(stage) {
+        return Next::Done;
     }
+    Next::Close
+}
+
+// Writes out what is used of the output: its bytes are free again, and what comes next stays, unless writing fails.
+fn write_out(out: &[u8], r: Run) -> Run
+    requires { ⌜ r .state .used ≤ length (now out) ⌝ }
+    ensures { λ x. ⌜ Wrote r x ⌝ }
+{
+    let s = r.state;
+    let used = s.used;
+    let w = sheet::flushed(s);
+    if hand_out(&out[..used], out, s) {
+        let next = r.next;
+        return Run {
+            next,
+            at: r.at,
+            got: r.got,
+            state: w,
+        };
+    }
+    io::write_all(2, b"nightsheet: cannot write\n");
+    Run {
+        next: Next::Failed,
+        at: r.at,
+        got: r.got,
+        state: w,
+    }
+}
+
+// Hands bytes to standard output: the night's, as they stand in the output, which is lent for this promise alone.
+fn hand_out(bytes: &[u8], out: &[u8], s: State) -> bool
+    requires { ⌜ now bytes ≡ take (s .used) (now out) ⌝ }
+{
+    io::write_all(1, bytes)
 }

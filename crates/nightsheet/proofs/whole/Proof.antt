@@ -1,74 +1,108 @@
--- `nightsheet::whole` meets its contract: no loop.
-use Rattle.nightsheet.proofs.Runs.{fit-dawn}
+-- `nightsheet::whole` meets its contract: the invariant: the session so far, in the memory as it was lent. The measure is how many steps may follow.
+use Rattle.nightsheet.proofs.Steps.{stood-first, step-left}
+use Rattle.nightsheet.specs.declared.Next.the-variants as N
+use Rattle.nightsheet.specs.Steps.{Memory, runOf, Stood}
+use Rattle.sheet.specs.declared.State.{State}
+use Rattle.tables.specs.Layout.{tables}
+use Prim.Native.Nat.{_<_}
+use mathlib.Core.Path.{_≡_, subst, sym}
 use native.Mathlib.Omega.{arith}
 use borrow.Author.Needs.{needs}
 use Rattle.nightsheet.proofs.whole.Statement.{statement}
 use Rattle.nightsheet.proofs.whole.Tie as tie
 
-start-requires : tie.Need-start-requires
+abbrev Inv-loop : tie.InvT-loop
+Inv-loop chunk₀ buf₀ counts₀ accounts₀ counters₀ pays₀ out₀ r₀ turns₀ chunk buf counts accounts counters pays out r turns =
+    Memory chunk buf counts (tables accounts counters pays) out × Stood (r .next) r chunk buf (tables accounts counters pays) out
+
+abbrev μ-loop : tie.MeasureT-loop
+μ-loop chunk₀ buf₀ counts₀ accounts₀ counters₀ pays₀ out₀ r₀ turns₀ chunk buf counts accounts counters pays out r turns = turns
+
+-- ---- places on the way
+
+abbrev entered : tie.After-start Inv-loop μ-loop → tie.Start Inv-loop μ-loop
+entered c = let d = c .before .before .before in d .before .before .before .before
+
+abbrev begin : tie.At-loop Inv-loop μ-loop → tie.Start Inv-loop μ-loop
+begin c = entered (c .before)
+
+abbrev looped : tie.After-step-arg7 Inv-loop μ-loop → tie.At-loop Inv-loop μ-loop
+looped c = let d = c .before .before .before .before in d .before .before .before .before .before
+
+abbrev stepped : tie.After-slice-known12 Inv-loop μ-loop → tie.After-step Inv-loop μ-loop
+stepped c = let d = c .before .before .before .before in let e = d .before .before .before .before in e .before .before .before .before .before
+
+-- a step was left
+left : (c : tie.After-step Inv-loop μ-loop) → 0 < looped (c .before) .loop .turns
+left c = let d = c .before .before .before .before .before in let e = d .before .before .before in step-left (looped (c .before) .loop .r .next) (looped (c .before) .loop .turns) (e .before .goes-on .ensures) (e .if1 .taken)
+
+start-requires : tie.Need-start-requires Inv-loop μ-loop
 start-requires c κs = search needs
 
-read-all-requires : tie.Need-read-all-requires
-read-all-requires c κs = let p = c .before .before .before .before .before .before .before .before .before .before .before .before .before .before .pre in (p .0, fit-dawn _ _ _ _ (c .before .before .before .before .before .before .before .start .ensures) (p .1) (p .2) (p .3))
+loop-holds : tie.Need-loop-holds Inv-loop μ-loop
+loop-holds c =
+    let s = entered c in (
+      s .pre .0,
+      subst (λ (q : State). Stood N.Read (runOf N.Read 0 q) (s .args .chunk .now) (s .args .buf .now) (tables (s .args .accounts .now) (s .args .counters .now) (s .args .pays .now)) (s .args .out .now))
+          (sym (c .start .ensures)) (stood-first (s .pre .0) (s .pre .1)),
+    )
 
-close-all-requires : tie.Need-close-all-requires
-close-all-requires c κs = let k = c .before .before .before .before .before .before .before .before .before .before .before .before .before .before .before .before .before .before .before .before .before .read-all .kept in let p = c .before .before .before .before .before .before .before .before .before .before .before .before .before .before .before .before .before .before .before .before .before .before .before .before .before .before .before .before .before .before .before .before .before .before .before .before .pre .0 in (record { line = omega (arith, k, p .line); slots = omega (arith, k, p .slots); long = omega (arith, k, p .long) }, c .before .before .before .before .before .before .before .before .before .before .before .before .before .before .before .before .before .before .before .before .before .read-all .ensures)
+goes-on-requires : tie.Need-goes-on-requires Inv-loop μ-loop
+goes-on-requires c κs = search needs
 
-same-length : tie.Need-same-length
-same-length c = search needs
+step-requires : tie.Need-step-requires Inv-loop μ-loop
+step-requires c κs = let g = looped c .loop .inv in (g .0, g .1)
 
-same-length-2 : tie.Need-same-length-2
-same-length-2 c = search needs
+sub-turns : tie.Need-sub-turns Inv-loop μ-loop
+sub-turns c = left (stepped c)
 
-same-length-3 : tie.Need-same-length-3
-same-length-3 c = search needs
+loop-less : tie.Need-loop-less Inv-loop μ-loop
+loop-less c = omega (arith, left (stepped c))
 
-same-length-4 : tie.Need-same-length-4
-same-length-4 c = search needs
+loop-again : tie.Need-loop-again Inv-loop μ-loop
+loop-again c =
+    let d = stepped c in
+    let m = looped (d .before) .loop .inv .0 in
+    let k = d .step .kept in
+    (record { bytes = omega (arith, k, m .bytes); line = omega (arith, k, m .line); slots = omega (arith, k, m .slots); accounts = omega (arith, k, m .accounts); counters = omega (arith, k, m .counters); pays = omega (arith, k, m .pays); long = omega (arith, k, m .long) }, d .step .ensures)
 
-same-length-5 : tie.Need-same-length-5
-same-length-5 c = search needs
+same-length : tie.Need-same-length Inv-loop μ-loop
+same-length c = omega (arith, c .before .before .loop .inv .0 .bytes, begin (c .before .before) .pre .0 .bytes)
 
-same-length-6 : tie.Need-same-length-6
-same-length-6 c = search needs
+same-length-2 : tie.Need-same-length-2 Inv-loop μ-loop
+same-length-2 c = omega (arith, c .before .before .loop .inv .0 .line, begin (c .before .before) .pre .0 .line)
 
-same-length-7 : tie.Need-same-length-7
-same-length-7 c = search needs
+same-length-3 : tie.Need-same-length-3 Inv-loop μ-loop
+same-length-3 c = omega (arith, c .before .before .loop .inv .0 .slots, begin (c .before .before) .pre .0 .slots)
 
-returns : tie.Need-returns
-returns c = search needs
+same-length-4 : tie.Need-same-length-4 Inv-loop μ-loop
+same-length-4 c = omega (arith, c .before .before .loop .inv .0 .accounts, begin (c .before .before) .pre .0 .accounts)
 
-same-length-8 : tie.Need-same-length-8
-same-length-8 c = search needs
+same-length-5 : tie.Need-same-length-5 Inv-loop μ-loop
+same-length-5 c = omega (arith, c .before .before .loop .inv .0 .counters, begin (c .before .before) .pre .0 .counters)
 
-same-length-9 : tie.Need-same-length-9
-same-length-9 c = search needs
+same-length-6 : tie.Need-same-length-6 Inv-loop μ-loop
+same-length-6 c = omega (arith, c .before .before .loop .inv .0 .pays, begin (c .before .before) .pre .0 .pays)
 
-same-length-10 : tie.Need-same-length-10
-same-length-10 c = search needs
+same-length-7 : tie.Need-same-length-7 Inv-loop μ-loop
+same-length-7 c = omega (arith, c .before .before .loop .inv .0 .long, begin (c .before .before) .pre .0 .long)
 
-same-length-11 : tie.Need-same-length-11
-same-length-11 c = search needs
-
-same-length-12 : tie.Need-same-length-12
-same-length-12 c = search needs
-
-same-length-13 : tie.Need-same-length-13
-same-length-13 c = search needs
-
-same-length-14 : tie.Need-same-length-14
-same-length-14 c = search needs
-
-returns-2 : tie.Need-returns-2
-returns-2 c = search needs
+returns : tie.Need-returns Inv-loop μ-loop
+returns c = c .before .before .loop .inv .1
 
 pub whole-spec : {M : Type 1} → statement M
 whole-spec =
     tie.close
     (tie.spec
+    Inv-loop
+    μ-loop
     start-requires
-    read-all-requires
-    close-all-requires
+    loop-holds
+    goes-on-requires
+    step-requires
+    sub-turns
+    loop-less
+    loop-again
     same-length
     same-length-2
     same-length-3
@@ -76,12 +110,4 @@ whole-spec =
     same-length-5
     same-length-6
     same-length-7
-    returns
-    same-length-8
-    same-length-9
-    same-length-10
-    same-length-11
-    same-length-12
-    same-length-13
-    same-length-14
-    returns-2)
+    returns)
