@@ -3,8 +3,8 @@ use Prim.Native.Nat.{ℕ, zero, suc, _+_, _^_, _≤_, _<_}
 use mathlib.Core.Path.{_≡_}
 use mathlib.Core.Bool.{cond}
 use mathlib.Core.List.{List, [], _∷_}
-use lib.ListN.{length, getD}
-use lib.IntN.{natAbs}
+use lib.ListN.{length, getD, take}
+use lib.IntN.{ℤ, natAbs}
 use lib.Dec.{eqb}
 use Rattle.numbers.specs.Numbers.{mostDigits, numberOf, signedOf}
 use Rattle.numbers.specs.declared.Number.{Number}
@@ -15,17 +15,50 @@ use Rattle.dayfile.specs.declared.Kind.{Kind}
 use Rattle.dayfile.specs.declared.Kind.the-variants as K
 use Rattle.dayfile.specs.declared.Count.{Count}
 use Rattle.dayfile.specs.declared.Count.the-variants as C
-use Rattle.dayfile.specs.declared.Entry.{Entry}
-use Rattle.dayfile.specs.declared.Entry.the-variants as E
 use Rattle.dayfile.specs.Fields.{fieldsOf, same}
+
+-- ---- the fixed numbers of a day file
+
+-- the most lines
+abbrev pub mostLines : ℕ
+mostLines = 1_000_000
 
 -- the most counts of a group
 abbrev pub mostCounts : ℕ
 mostCounts = 64
 
--- the edition of the day file
+-- the edition
 abbrev pub edition : ℕ
 edition = 1
+
+-- the kind of a payment by `pay`
+abbrev pub plain : ℕ
+plain = 0
+
+-- ---- entries
+
+-- a line of the opening: `house` count; `member` number, balance, line
+pub data OpeningLine : Type 0 where
+  house : ℕ → OpeningLine
+  member : ℕ → ℤ → ℕ → OpeningLine
+
+-- a line of the day: a payment's kind, payer, number, payee, amount; `deposit` member, amount; `release` member; `group` with its counts;
+-- `resolve`
+pub data DayLine : Type 0 where
+  pay : ℕ → ℕ → ℕ → ℕ → ℕ → DayLine
+  deposit : ℕ → ℕ → DayLine
+  release : ℕ → DayLine
+  group : List ℕ → DayLine
+  resolve : DayLine
+
+-- what a line says: a line of the opening or of the day, `end`, or nothing that a line may say
+pub data Entry : Type 0 where
+  opening : OpeningLine → Entry
+  day : DayLine → Entry
+  end : Entry
+  bad : Entry
+
+-- ---- words
 
 -- `house`
 abbrev pub houseWord : List ℕ
@@ -58,6 +91,8 @@ resolveWord = 114 ∷ 101 ∷ 115 ∷ 111 ∷ 108 ∷ 118 ∷ 101 ∷ []
 -- `end`
 abbrev pub endWord : List ℕ
 endWord = 101 ∷ 110 ∷ 100 ∷ []
+
+-- ---- from words and numbers to entries
 
 -- the kind that a word names, where all its fields are numbers
 abbrev pub kindOf : List ℕ → Kind
@@ -103,50 +138,46 @@ countFrom n (short vs) = C.Wrong
 
 -- an entry that has k numbers, where there are m
 abbrev pub onlyOf : Entry → ℕ → ℕ → Entry
-onlyOf e m k = cond (eqb m k) e E.Bad
+onlyOf e m k = cond (eqb m k) e bad
 
 -- `house` edition, count
 abbrev pub houseOf : ℕ → ℕ → Entry
-houseOf e n = cond (eqb e edition) (E.House n) E.Bad
+houseOf e n = cond (eqb e edition) (opening (house n)) bad
 
--- `group` with m counts
-abbrev pub groupOf : ℕ → Entry
-groupOf m = cond (eqb m 0) E.Bad (E.Group m)
-
--- a line of some kind with m numbers, of which the first are a, b, c, d
-abbrev pub shapeOf : ℕ → ℕ → ℕ → ℕ → ℕ → Kind → Entry
-shapeOf m a b c d K.House = onlyOf (houseOf a b) m 2
-shapeOf m a b c d K.Pay = onlyOf (E.Pay a b c d) m 4
-shapeOf m a b c d K.Deposit = onlyOf (E.Deposit a b) m 2
-shapeOf m a b c d K.Release = onlyOf (E.Release a) m 1
-shapeOf m a b c d K.Group = groupOf m
-shapeOf m a b c d K.Resolve = onlyOf E.Resolve m 0
-shapeOf m a b c d K.End = onlyOf E.End m 0
-shapeOf m a b c d K.Other = E.Bad
+-- `group` with its counts, of which there is one at least
+abbrev pub groupOf : List ℕ → Entry
+groupOf vs = cond (eqb (length vs) 0) bad (day (group vs))
 
 -- a line of some kind with its numbers
 abbrev pub ofKind : Kind → List ℕ → Entry
-ofKind k vs = shapeOf (length vs) (getD vs 0 0) (getD vs 1 0) (getD vs 2 0) (getD vs 3 0) k
+ofKind K.House vs = onlyOf (houseOf (getD vs 0 0) (getD vs 1 0)) (length vs) 2
+ofKind K.Pay vs = onlyOf (day (pay plain (getD vs 0 0) (getD vs 1 0) (getD vs 2 0) (getD vs 3 0))) (length vs) 4
+ofKind K.Deposit vs = onlyOf (day (deposit (getD vs 0 0) (getD vs 1 0))) (length vs) 2
+ofKind K.Release vs = onlyOf (day (release (getD vs 0 0))) (length vs) 1
+ofKind K.Group vs = groupOf vs
+ofKind K.Resolve vs = onlyOf (day resolve) (length vs) 0
+ofKind K.End vs = onlyOf end (length vs) 0
+ofKind K.Other vs = bad
 
 -- a line of some kind, bad where a field is no number or is one too many
 abbrev pub ofNumbers : Kind → Numbers → Entry
 ofNumbers k (good vs) = ofKind k vs
-ofNumbers k (short vs) = E.Bad
+ofNumbers k (short vs) = bad
 
 -- `member` number, balance, line, as they were read
 abbrev pub asMember : Number → Signed → Number → Entry
-asMember (Value n) (Whole b) (Value l) = E.Member n b l
-asMember (Value n) (Whole b) Bad = E.Bad
-asMember (Value n) Wrong l = E.Bad
-asMember Bad b l = E.Bad
+asMember (Value n) (Whole b) (Value l) = opening (member n b l)
+asMember (Value n) (Whole b) Bad = bad
+asMember (Value n) Wrong l = bad
+asMember Bad b l = bad
 
 -- the fields of a `member` line, which are three
 abbrev pub memberOf : List (List ℕ) → Entry
-memberOf [] = E.Bad
-memberOf (n ∷ []) = E.Bad
-memberOf (n ∷ b ∷ []) = E.Bad
+memberOf [] = bad
+memberOf (n ∷ []) = bad
+memberOf (n ∷ b ∷ []) = bad
 memberOf (n ∷ b ∷ l ∷ []) = asMember (numberOf n) (signedOf b) (numberOf l)
-memberOf (n ∷ b ∷ l ∷ x ∷ fs) = E.Bad
+memberOf (n ∷ b ∷ l ∷ x ∷ fs) = bad
 
 -- a line that begins with the word w and goes on with the fields fs
 abbrev pub ofWord : List ℕ → List (List ℕ) → Entry
@@ -154,39 +185,36 @@ ofWord w fs = cond (same w memberWord) (memberOf fs) (ofNumbers (kindOf w) (numb
 
 -- a line with its fields
 abbrev pub ofFields : List (List ℕ) → Entry
-ofFields [] = E.Bad
+ofFields [] = bad
 ofFields (w ∷ fs) = ofWord w fs
 
 -- what a line says
 abbrev pub entryOf : List ℕ → Entry
 entryOf s = ofFields (fieldsOf s)
 
--- the numbers that such a line leaves in the lent list: none for a member, and else those before the first bad field
-abbrev pub countsWord : List ℕ → List (List ℕ) → List ℕ
-countsWord w fs = cond (same w memberWord) [] (valuesOf (numbersOf mostCounts fs))
-
--- the same for a line with its fields
-abbrev pub countsIn : List (List ℕ) → List ℕ
-countsIn [] = []
-countsIn (w ∷ fs) = countsWord w fs
-
--- the numbers that a line leaves in the lent list; where it says a group, these are its counts
-abbrev pub countsOf : List ℕ → List ℕ
-countsOf s = countsIn (fieldsOf s)
+-- ---- ranges
 
 -- all of them have at most 18 digits
 abbrev pub AllSmall : List ℕ → Type 0
 AllSmall [] = Unit
 AllSmall (x ∷ vs) = (x < 10 ^ mostDigits) × AllSmall vs
 
--- each number of an entry has at most 18 digits, and a group of n has n counts, 1 to 64; vs is what the line left in the lent list
-abbrev pub smallEntry : List ℕ → Entry → Type 0
-smallEntry vs (E.House n) = n < 10 ^ mostDigits
-smallEntry vs (E.Member n b l) = (n < 10 ^ mostDigits) × (natAbs b < 10 ^ mostDigits) × (l < 10 ^ mostDigits)
-smallEntry vs (E.Pay a b c d) = (a < 10 ^ mostDigits) × (b < 10 ^ mostDigits) × (c < 10 ^ mostDigits) × (d < 10 ^ mostDigits)
-smallEntry vs (E.Deposit a b) = (a < 10 ^ mostDigits) × (b < 10 ^ mostDigits)
-smallEntry vs (E.Release a) = a < 10 ^ mostDigits
-smallEntry vs (E.Group n) = (n ≡ length vs) × (1 ≤ n) × (n ≤ mostCounts)
-smallEntry vs E.Resolve = Unit
-smallEntry vs E.End = Unit
-smallEntry vs E.Bad = Unit
+-- each number of a line of the opening has at most 18 digits,
+abbrev pub smallOpening : OpeningLine → Type 0
+smallOpening (house n) = n < 10 ^ mostDigits
+smallOpening (member n b l) = (n < 10 ^ mostDigits) × (natAbs b < 10 ^ mostDigits) × (l < 10 ^ mostDigits)
+
+-- so has each of a line of the day, and a group has 1 to 64 counts;
+abbrev pub smallDay : DayLine → Type 0
+smallDay (pay k a b c d) = (k ≡ plain) × (a < 10 ^ mostDigits) × (b < 10 ^ mostDigits) × (c < 10 ^ mostDigits) × (d < 10 ^ mostDigits)
+smallDay (deposit a b) = (a < 10 ^ mostDigits) × (b < 10 ^ mostDigits)
+smallDay (release a) = a < 10 ^ mostDigits
+smallDay (group vs) = AllSmall vs × (1 ≤ length vs) × (length vs ≤ mostCounts)
+smallDay resolve = Unit
+
+-- and so has each of an entry
+abbrev pub smallEntry : Entry → Type 0
+smallEntry (opening o) = smallOpening o
+smallEntry (day d) = smallDay d
+smallEntry end = Unit
+smallEntry bad = Unit

@@ -2,29 +2,52 @@
 use numbers::Number;
 use numbers::Signed;
 ghost use mathlib.Core.Path.{_≡_};
+ghost use mathlib.Core.Bool.{cond};
+ghost use mathlib.Core.List.{[]};
 ghost use Prim.Native.Nat.{_+_, _-_, _≤_};
+ghost use lib.Dec.{eqb};
 ghost use lib.ListN.{length, take, drop};
 ghost use lib.Seq.{sets};
 ghost use Rattle.numbers.specs.Numbers.{numberOf, signedOf};
+ghost use Rattle.dayfile.specs.declared.OpeningLine.the-variants as openings;
+ghost use Rattle.dayfile.specs.declared.DayLine.the-variants as days;
+ghost use Rattle.dayfile.specs.declared.Entry.the-variants as entries;
 ghost use Rattle.dayfile.specs.Fields.{upTo, fieldsFrom, same};
-ghost use Rattle.dayfile.specs.Entries.{mostCounts, numbersOf, valuesOf, countFrom, kindOf, onlyOf, houseOf, groupOf, shapeOf, ofNumbers, asMember, memberOf, entryOf, countsOf};
+ghost use Rattle.dayfile.specs.Entries.{mostCounts, edition as first, numbersOf, valuesOf, countFrom, kindOf, ofKind, ofNumbers, asMember, memberOf, entryOf};
+ghost use Rattle.dayfile.specs.Reading.{Tells, leftOf};
+
+// The most lines of a day file.
+pub const MOST_LINES: u64 = 1_000_000;
 
 // The most counts of a group.
-const MOST_COUNTS: usize = 64;
+pub const MOST_COUNTS: usize = 64;
 
 // The edition of the day file.
 const EDITION: u64 = 1;
 
-// What a line says: house count; member number, balance, line; pay payer, number, payee, amount; deposit member, amount; release
-// member; group how many counts; resolve; end; or a bad line.
-pub enum Entry {
+// The kind of a payment by `pay`.
+const PLAIN: u64 = 0;
+
+// A line of the opening: house count; member number, balance, line.
+pub enum OpeningLine {
     House(u64),
     Member(u64, i64, u64),
-    Pay(u64, u64, u64, u64),
+}
+
+// A line of the day: a payment's kind, payer, number, payee, amount; deposit member, amount; release member; group how many counts, which
+// stand in the lent list; resolve.
+pub enum DayLine {
+    Pay(u64, u64, u64, u64, u64),
     Deposit(u64, u64),
     Release(u64),
     Group(usize),
     Resolve,
+}
+
+// What a line says.
+pub enum Entry {
+    Opening(OpeningLine),
+    Day(DayLine),
     End,
     Bad,
 }
@@ -50,8 +73,8 @@ enum Count {
 // What a line says. A group's counts are left in the lent list.
 pub fn read_line(line: &[u8], counts: &mut [u64]) -> Entry
     requires { ⌜ length (now counts) ≡ mostCounts ⌝ }
-    ensures { λ r. ⌜ r ≡ entryOf (now (line .entry)) ⌝ }
-    ensures { λ r. ⌜ now (counts .exit) ≡ sets (now (counts .entry)) 0 (countsOf (now (line .entry))) ⌝ }
+    ensures { λ r. ⌜ Tells r (now (counts .exit)) (entryOf (now (line .entry))) ⌝ }
+    ensures { λ r. ⌜ now (counts .exit) ≡ sets (now (counts .entry)) 0 (leftOf (now (line .entry))) ⌝ }
 {
     let e = next_tab(line, 0);
     if equal(&line[..e], b"member") {
@@ -63,14 +86,14 @@ pub fn read_line(line: &[u8], counts: &mut [u64]) -> Entry
 // What a line says whose first word, which ends at e, is not member.
 fn read_kind(line: &[u8], e: usize, counts: &mut [u64]) -> Entry
     requires { ⌜ (e ≤ length (now line)) × (length (now counts) ≡ mostCounts) ⌝ }
-    ensures { λ r. ⌜ r ≡ ofNumbers (kindOf (take e (now (line .entry)))) (numbersOf mostCounts (fieldsFrom (e + 1) (now (line .entry)))) ⌝ }
+    ensures { λ r. ⌜ Tells r (now (counts .exit)) (ofNumbers (kindOf (take e (now (line .entry)))) (numbersOf mostCounts (fieldsFrom (e + 1) (now (line .entry))))) ⌝ }
     ensures { λ r. ⌜ now (counts .exit) ≡ sets (now (counts .entry)) 0 (valuesOf (numbersOf mostCounts (fieldsFrom (e + 1) (now (line .entry))))) ⌝ }
 {
     let k = kind_of(&line[..e]);
     let Count::Good(m) = read_numbers(line, e + 1, counts) else {
         return Entry::Bad;
     };
-    shape(k, m, counts[0], counts[1], counts[2], counts[3])
+    shape(k, m, counts)
 }
 
 // The place of the next tab from place from on, or the line's end.
@@ -106,7 +129,7 @@ fn signed_at(line: &[u8], at: usize, e: usize) -> Signed
 
 // The fields of a member line from place from on.
 fn read_member(line: &[u8], from: usize) -> Entry
-    ensures { λ r. ⌜ r ≡ memberOf (fieldsFrom from (now (line .entry))) ⌝ }
+    ensures { λ r. ⌜ Tells r [] (memberOf (fieldsFrom from (now (line .entry)))) ⌝ }
 {
     let n = line.len();
     if n < from {
@@ -133,7 +156,7 @@ fn read_member(line: &[u8], from: usize) -> Entry
 
 // A member line with its three fields.
 fn member(number: Number, balance: Signed, limit: Number) -> Entry
-    ensures { λ r. ⌜ r ≡ asMember number balance limit ⌝ }
+    ensures { λ r. ⌜ Tells r [] (asMember number balance limit) ⌝ }
 {
     let Number::Value(n) = number else {
         return Entry::Bad;
@@ -144,7 +167,7 @@ fn member(number: Number, balance: Signed, limit: Number) -> Entry
     let Number::Value(l) = limit else {
         return Entry::Bad;
     };
-    Entry::Member(n, b, l)
+    Entry::Opening(OpeningLine::Member(n, b, l))
 }
 
 // The fields from place from on, as numbers, into the lent list.
@@ -215,17 +238,21 @@ fn kind_of(word: &[u8]) -> Kind
     Kind::Other
 }
 
-// A line of kind k with m numbers, of which the first are a, b, c, d.
-fn shape(k: Kind, m: usize, a: u64, b: u64, c: u64, d: u64) -> Entry
-    ensures { λ r. ⌜ r ≡ shapeOf m a b c d k ⌝ }
+// A line of kind k with the first m numbers of the list.
+fn shape(k: Kind, m: usize, counts: &[u64]) -> Entry
+    requires { ⌜ (length (now counts) ≡ mostCounts) × (m ≤ mostCounts) ⌝ }
+    ensures { λ r. ⌜ Tells r (now (counts .entry)) (ofKind k (take m (now (counts .entry)))) ⌝ }
 {
     match k {
-        Kind::House => only(house(a, b), m, 2),
-        Kind::Pay => only(Entry::Pay(a, b, c, d), m, 4),
-        Kind::Deposit => only(Entry::Deposit(a, b), m, 2),
-        Kind::Release => only(Entry::Release(a), m, 1),
+        Kind::House => only(house(counts[0], counts[1]), m, 2),
+        Kind::Pay => {
+            let p = DayLine::Pay(PLAIN, counts[0], counts[1], counts[2], counts[3]);
+            only(Entry::Day(p), m, 4)
+        }
+        Kind::Deposit => only(Entry::Day(DayLine::Deposit(counts[0], counts[1])), m, 2),
+        Kind::Release => only(Entry::Day(DayLine::Release(counts[0])), m, 1),
         Kind::Group => group(m),
-        Kind::Resolve => only(Entry::Resolve, m, 0),
+        Kind::Resolve => only(Entry::Day(DayLine::Resolve), m, 0),
         Kind::End => only(Entry::End, m, 0),
         Kind::Other => Entry::Bad,
     }
@@ -233,17 +260,17 @@ fn shape(k: Kind, m: usize, a: u64, b: u64, c: u64, d: u64) -> Entry
 
 // An entry that has k numbers, where there are m.
 fn only(e: Entry, m: usize, k: usize) -> Entry
-    ensures { λ r. ⌜ r ≡ onlyOf e m k ⌝ }
+    ensures { λ r. ⌜ r ≡ cond (eqb m k) e entries.Bad ⌝ }
 {
     if m == k { e } else { Entry::Bad }
 }
 
 // A house line with its edition and count.
 fn house(edition: u64, count: u64) -> Entry
-    ensures { λ r. ⌜ r ≡ houseOf edition count ⌝ }
+    ensures { λ r. ⌜ r ≡ cond (eqb edition first) (entries.Opening (openings.House count)) entries.Bad ⌝ }
 {
     if edition == EDITION {
-        Entry::House(count)
+        Entry::Opening(OpeningLine::House(count))
     } else {
         Entry::Bad
     }
@@ -251,7 +278,11 @@ fn house(edition: u64, count: u64) -> Entry
 
 // A group line with m counts.
 fn group(m: usize) -> Entry
-    ensures { λ r. ⌜ r ≡ groupOf m ⌝ }
+    ensures { λ r. ⌜ r ≡ cond (eqb m 0) entries.Bad (entries.Day (days.Group m)) ⌝ }
 {
-    if m == 0 { Entry::Bad } else { Entry::Group(m) }
+    if m == 0 {
+        Entry::Bad
+    } else {
+        Entry::Day(DayLine::Group(m))
+    }
 }

@@ -15,8 +15,8 @@ use Rattle.rule.specs.House.{House, waits, sent}
 use Rattle.rule.specs.Verdict.{verdict}
 use Rattle.rule.proofs.Sums.{sum-mono}
 use Rattle.rule.proofs.Bounds.{worth-mono}
-use Rattle.tables.specs.Sizes.{mostAmount}
 use Rattle.sets.specs.Sets.{sizeOf, lowestOf}
+use Rattle.tables.specs.Sizes.{places, mostAmount}
 use Rattle.tables.specs.Layout.{Tables, membersIn, wordsIn, houseIn}
 use Rattle.tables.specs.Holds.{Payment, Holds}
 use Rattle.tables.proofs.Houses.{queue-each, holds-payment, waiting-sum}
@@ -46,11 +46,11 @@ module _ {T : Tables} (h : Holds T) where
       omega (arith, worth-mono amountOf q (z i) (length q) l, e, total-small q (queued-small i))
 
   -- so that a set's payments are few,
-  pub counts-few : (z : Counts) → Under (membersIn T) z (waits (houseIn T)) → sum (membersIn T) z ≤ 2048
+  pub counts-few : (z : Counts) → Under (membersIn T) z (waits (houseIn T)) → sum (membersIn T) z ≤ places
   counts-few z u = omega (arith, sum-mono (membersIn T) z (waits (houseIn T)) u, waiting-sum h, h .counters .room)
 
   -- and their sum is small
-  pub sum-small : (z : Counts) → Under (membersIn T) z (waits (houseIn T)) → sum (membersIn T) (sent (houseIn T) z) ≤ 2048 * mostAmount
+  pub sum-small : (z : Counts) → Under (membersIn T) z (waits (houseIn T)) → sum (membersIn T) (sent (houseIn T) z) ≤ places * mostAmount
   sum-small z u = omega (arith, sum-scaled (membersIn T) (sent (houseIn T) z) (waits (houseIn T)) (λ i l. sent-small z i (u i l)), waiting-sum h, h .counters .room)
 
 -- an accepted release is of a member with payments waiting

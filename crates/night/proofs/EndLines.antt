@@ -7,6 +7,7 @@ use borrow.Author.Tests.{lt-ltb, le-ltb}
 use lib.IntN.{ℤ}
 use lib.ListN.{length}
 use Rattle.rule.specs.Table.{queueOf}
+use Rattle.tables.specs.Sizes.{places}
 use Rattle.tables.specs.Layout.{countOf, lastOf, settledOf, balanceOf, moneyOf, wordsOf, Tables, membersIn}
 use Rattle.tables.specs.Holds.{Holds}
 use Rattle.tables.proofs.Houses.{few-wait}
@@ -16,7 +17,7 @@ use Rattle.night.specs.Lines.{endAt}
 -- a member's waiting payments are those accepted and not settled
 pub record Left (c p : List ℕ) (i : ℕ) : Type 0 where
   pub some : settledOf c i ≤ lastOf c i
-  pub few : lastOf c i - settledOf c i ≤ 2048
+  pub few : lastOf c i - settledOf c i ≤ places
   pub are : lastOf c i - settledOf c i ≡ length (queueOf i (wordsOf c p))
 
 pub left-waits : {T : Tables} (h : Holds T) (i : ℕ) → i < membersIn T → Left (T .counters) (T .pays) i

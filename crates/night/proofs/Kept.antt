@@ -9,9 +9,11 @@ use lib.Dec.{eqb, leb, ltb}
 use lib.IntN.{ℤ, pos, negsuc, natAbs, _+ℤ_}
 use lib.ListN.{getD, take, length-set, List·getD-eq-default}
 use Rattle.rule.specs.Ints.{up, down}
+use Rattle.rule.specs.Verdict.{verdict}
+use Rattle.sets.specs.Sets.{sizeOf, lowestOf}
 use Rattle.rule.proofs.Ints.{plus, ≤ℤ-is}
-use Rattle.tables.specs.Sizes.{members, most, mostAmount, mostLine}
-use Rattle.tables.specs.Layout.{Tables, membersIn, houseIn, countOf, balanceOf, moneyOf}
+use Rattle.tables.specs.Sizes.{members, mostAmount, mostLine, most, lastNumber}
+use Rattle.tables.specs.Layout.{settledAt, Tables, membersIn, houseIn, countOf, balanceOf, moneyOf}
 use Rattle.tables.specs.Holds.{Accounts, Holds}
 use Rattle.tables.proofs.Tests.{and-both}
 use Rattle.tables.proofs.Balances.{accounts-low, accounts-near, balance-high}
@@ -38,13 +40,12 @@ use Rattle.entry.proofs.Submits.{submits-hold}
 use Rattle.settling.proofs.Settles.{group-books, release-books}
 use Rattle.resolving.proofs.Resolves.{largest-books}
 use Rattle.print.specs.declared.Says.{Says}
-use Rattle.dayfile.specs.declared.Entry.{Entry}
-use Rattle.dayfile.specs.declared.Entry.the-variants as E
+use Rattle.dayfile.specs.Entries.{house, member, DayLine, pay, deposit, release, group, resolve, Entry, opening, day, end, bad}
 use Rattle.print.specs.Room.{Ranges}
 use Rattle.print.specs.declared.Says.the-variants as S
 use Rattle.night.specs.declared.Stage.{Stage}
 use Rattle.night.specs.declared.Stage.the-variants as G
-use Rattle.night.specs.Lines.{Did, quiet, lineOf, refusal, stops, strays, houseDoes, given, balancesGiven, linesGiven, opensTo, openDoes, givenDoes, memberDoes, paySays, payDoes, depositSays, depositDoes, releaseSays, releaseDoes, groupSays, groupDoes, resolveDoes, dayDoes, doesOf, balanceSays, endAt}
+use Rattle.night.specs.Lines.{Did, quiet, lineOf, refusal, stops, strays, houseDoes, given, balancesGiven, linesGiven, opensTo, openDoes, givenDoes, memberDoes, paySays, payDoes, depositSays, depositDoes, releaseSays, releaseDoes, groupSays, groupDoes, resolveDoes, callDoes, dayDoes, doesOf, balanceSays, endAt}
 use Rattle.night.specs.Stands.{Giving, Stands, SaidRanges}
 use Rattle.night.proofs.Amounts.{queued-small, counts-few, sum-small, Heads, release-heads, verdict-small, size-small, lowest-small}
 
@@ -71,17 +72,17 @@ abs-small (negsuc n) u d = omega arith
 
 module _ {n : ℕ} {a : List ℤ} (h : Accounts n a) where
   -- a balance of a state, and the sum of all
-  pub balance-small : (i : ℕ) → i < 64 → natAbs (balanceOf a i) < 10 ^ 16
+  pub balance-small : (i : ℕ) → i < members → natAbs (balanceOf a i) < 10 ^ 16
   balance-small i l = let n = accounts-near h i l in abs-small (balanceOf a i) (omega (arith, n .above)) (omega (arith, n .below))
 
   pub money-small : natAbs (moneyOf a) < 10 ^ 16
   money-small =
       let s = ≤ℤ-is (moneyOf a) (pos most) (h .sum) in
-      let z : 0 < 64 = omega arith in
+      let z : 0 < members = omega arith in
       let l = accounts-low h 0 z in
       abs-small (moneyOf a) (omega arith) (omega (arith, balance-high mostLine (balanceOf a) members 0 z (accounts-low h)))
 
-  deposit-small : (i x : ℕ) → i < 64 → x ≤ mostAmount → natAbs (balanceOf a i +ℤ pos x) < 10 ^ 16
+  deposit-small : (i x : ℕ) → i < members → x ≤ mostAmount → natAbs (balanceOf a i +ℤ pos x) < 10 ^ 16
   deposit-small i x l q =
       let n = accounts-near h i l in
       abs-small (balanceOf a i +ℤ pos x) (omega (arith, n .above, n .below, plus (balanceOf a i) (pos x))) (omega (arith, n .above, n .below, plus (balanceOf a i) (pos x)))
@@ -94,7 +95,7 @@ pub record Kept (d : Did) : Type 0 where
 
 module _ (n : ℕ) (few : n < 10 ^ 7) where
   stops-kept : (r : Refusal) (t : Tables) → Kept (stops n r t)
-  stops-kept r t = record { stands = tt; ranges = (few, code-small r) }
+  stops-kept r t = record { stands = tt; ranges = ((few, code-small r), tt) }
 
   -- ---- the opening
 
@@ -105,17 +106,13 @@ module _ (n : ℕ) (few : n < 10 ^ 7) where
   house-by count t s false e = stops-kept R.Opening t
 
   house-kept : (t : Tables) → Stands G.House t → (e : Entry) → Kept (houseDoes n t e)
-  house-kept t s (E.House count) = house-by count t s (leb 1 count && leb count members) refl
-  house-kept t s (E.Member m b l) = stops-kept R.Line t
-  house-kept t s (E.Pay m k q x) = stops-kept R.Line t
-  house-kept t s (E.Deposit m x) = stops-kept R.Line t
-  house-kept t s (E.Release m) = stops-kept R.Line t
-  house-kept t s (E.Group m) = stops-kept R.Line t
-  house-kept t s E.Resolve = stops-kept R.Line t
-  house-kept t s E.End = stops-kept R.Line t
-  house-kept t s E.Bad = stops-kept R.Line t
+  house-kept t s (opening (house count)) = house-by count t s (leb 1 count && leb count members) refl
+  house-kept t s (opening (member m b l)) = stops-kept R.Line t
+  house-kept t s (day d) = stops-kept R.Line t
+  house-kept t s end = stops-kept R.Line t
+  house-kept t s bad = stops-kept R.Line t
 
-  open-kept : (count : ℕ) (t : Tables) → count ≤ 64 → Kept (openDoes n count t)
+  open-kept : (count : ℕ) (t : Tables) → count ≤ members → Kept (openDoes n count t)
   unfolding held openAct
   open-kept count t f = go (first (openAct count b l .tests t)) refl
     where
@@ -126,8 +123,8 @@ module _ (n : ℕ) (few : n < 10 ^ 7) where
       l = linesGiven count t
 
       go : (j : Judged) → first (openAct count b l .tests t) ≡ j → Kept (opensTo n count (decided (openAct count b l) t j))
-      go Fine e = let o : Opens t count b l = open-fine e in record { stands = opens-hold o; ranges = (few, omega arith, rw (sym (opens-money o)) (money-small (opens-hold o .accounts))) }
-      go (Bad r) e = record { stands = tt; ranges = (few, code-small r) }
+      go Fine e = let o : Opens t count b l = open-fine e in record { stands = opens-hold o; ranges = ((few, omega arith, rw (sym (opens-money o)) (money-small (opens-hold o .accounts))), tt) }
+      go (Bad r) e = record { stands = tt; ranges = ((few, code-small r), tt) }
 
   given-kept : (count k : ℕ) (t : Tables) (b : ℤ) (l : ℕ) → Giving count k t → Giving count k (given t k b l)
   given-kept count k t b l g = record {
@@ -145,21 +142,17 @@ module _ (n : ℕ) (few : n < 10 ^ 7) where
   member-by count k t u g false = stops-kept R.Line t
 
   member-kept : (count k : ℕ) (t : Tables) → Giving count k t → (e : Entry) → Kept (memberDoes n count k t e)
-  member-kept count k t g (E.Member m b l) = member-by count k t (given t k b l) (given-kept count k t b l g) (eqb m (k + 1))
-  member-kept count k t g (E.House m) = stops-kept R.Line t
-  member-kept count k t g (E.Pay m i q x) = stops-kept R.Line t
-  member-kept count k t g (E.Deposit m x) = stops-kept R.Line t
-  member-kept count k t g (E.Release m) = stops-kept R.Line t
-  member-kept count k t g (E.Group m) = stops-kept R.Line t
-  member-kept count k t g E.Resolve = stops-kept R.Line t
-  member-kept count k t g E.End = stops-kept R.Line t
-  member-kept count k t g E.Bad = stops-kept R.Line t
+  member-kept count k t g (opening (member m b l)) = member-by count k t (given t k b l) (given-kept count k t b l g) (eqb m (k + 1))
+  member-kept count k t g (opening (house m)) = stops-kept R.Line t
+  member-kept count k t g (day d) = stops-kept R.Line t
+  member-kept count k t g end = stops-kept R.Line t
+  member-kept count k t g bad = stops-kept R.Line t
 
   -- ---- the day
 
-  module _ (t : Tables) (h : Holds t) (narrow : (i : ℕ) → getD (t .counters) i 0 < 4294967296) where
+  module _ (t : Tables) (h : Holds t) (narrow : (i : ℕ) → getD (t .counters) i 0 ≤ lastNumber) where
     stray-kept : Kept (strays n t)
-    stray-kept = record { stands = h; ranges = (few, code-small R.Line) }
+    stray-kept = record { stands = h; ranges = ((few, code-small R.Line), tt) }
 
     -- a call's line, where it is kept if the request is fine
     act-kept : {A : Type 0} (k : Act A) (say : A → Says) → ((r : Refusal) → say (k .refuse r) ≡ refusal n r) → (first (k .tests t) ≡ Fine → Kept (lineOf say (k .does t)))
@@ -169,19 +162,20 @@ module _ (n : ℕ) (few : n < 10 ^ 7) where
       where
         go : (j : Judged) → first (k .tests t) ≡ j → Kept (lineOf say (decided k t j))
         go Fine e = f e
-        go (Bad r) e = record { stands = h; ranges = rw (told r) (few, code-small r) }
+        go (Bad r) e = record { stands = h; ranges = rw (told r) ((few, code-small r), tt) }
 
     pay-kept : (m k q x : ℕ) → Kept (payDoes n t m k q x)
     unfolding submitAct
     pay-kept m k q x = act-kept (submitAct m k q x) (paySays n m k) (λ r. refl) (λ e.
         let d : Submits t m k q x = submit-fine e in
-        record { stands = submits-hold h d; ranges = (few, omega (arith, d .within, h .counters .few), omega (arith, d .fits)) })
+        record { stands = submits-hold h d; ranges = ((few, omega (arith, d .within, h .counters .few), omega (arith, d .fits)), tt) })
 
     deposit-kept : (m x : ℕ) → Kept (depositDoes n t m x)
     unfolding depositAct
     deposit-kept m x = act-kept (depositAct m x) (depositSays n m) (λ r. refl) (λ e.
         let d : Deposits t m x = deposit-fine e in
-        record { stands = deposits-hold h d; ranges = (few, omega (arith, d .within, h .counters .few), deposit-small (h .accounts) (m - 1) x (omega (arith, d .one, d .within, h .counters .few)) (d .small)) })
+        let i : m - 1 < members = omega (arith, d .one, d .within, h .counters .few) in
+        record { stands = deposits-hold h d; ranges = ((few, omega (arith, d .within, h .counters .few), deposit-small (h .accounts) (m - 1) x i (d .small)), tt) })
 
     release-kept : (m : ℕ) → Kept (releaseDoes n t m)
     unfolding releaseAct
@@ -189,42 +183,47 @@ module _ (n : ℕ) (few : n < 10 ^ 7) where
         let d : Heads t m = release-heads e in
         record {
           stands = booked-holds h (onlyHead m) (release-books h m e);
-          ranges = (few, omega (arith, d .within, h .counters .few), omega (arith, narrow (128 + (m - 1))), omega (arith, queued-small h (m - 1) 0 (d .waiting)));
+          ranges = ((few, omega (arith, d .within, h .counters .few), omega (arith, narrow (settledAt + (m - 1))), omega (arith, queued-small h (m - 1) 0 (d .waiting))), tt);
         })
 
     group-kept : (k : List ℕ) → Kept (groupDoes n t k)
     unfolding groupAct bookAct
     group-kept k = act-kept (groupAct k) (groupSays n) (λ r. refl) (λ e.
         let b = group-books h k e in
-        record { stands = booked-holds h (listed k) b; ranges = (few, omega (arith, counts-few h (listed k) (b .allowed .within)), omega (arith, sum-small h (listed k) (b .allowed .within))) })
+        let w = b .allowed .within in
+        record { stands = booked-holds h (listed k) b; ranges = ((few, omega (arith, counts-few h (listed k) w), omega (arith, sum-small h (listed k) w)), tt) })
 
     resolve-kept : Kept (resolveDoes n t)
     resolve-kept =
         let b = largest-books h in
         let z = listed (largestIn t) in
-        record {
-          stands = booked-holds h z b;
-          ranges = (few, omega (arith, verdict-small (membersIn t) (houseIn t) z), omega (arith, counts-few h z (b .allowed .within)), omega (arith, sum-small h z (b .allowed .within)), omega (arith, size-small (stillWaits (houseIn t) z) (membersIn t), h .counters .few), omega (arith, lowest-small (stillWaits (houseIn t) z) (membersIn t), h .counters .few));
-        }
+        let w = b .allowed .within in
+        let still = stillWaits (houseIn t) z in
+        let v : verdict (membersIn t) (houseIn t) z < 10 ^ 2 = omega (arith, verdict-small (membersIn t) (houseIn t) z) in
+        let m : sizeOf (membersIn t) still < 10 ^ 2 = omega (arith, size-small still (membersIn t), h .counters .few) in
+        let l : lowestOf (membersIn t) still < 10 ^ 2 = omega (arith, lowest-small still (membersIn t), h .counters .few) in
+        record { stands = booked-holds h z b; ranges = ((few, v, omega (arith, counts-few h z w), omega (arith, sum-small h z w), m, l), tt) }
 
-    day-kept : (e : Entry) (vs : List ℕ) → Kept (dayDoes n t e vs)
-    day-kept (E.House m) vs = stray-kept
-    day-kept (E.Member m b l) vs = stray-kept
-    day-kept (E.Pay m k q x) vs = pay-kept m k q x
-    day-kept (E.Deposit m x) vs = deposit-kept m x
-    day-kept (E.Release m) vs = release-kept m
-    day-kept (E.Group m) vs = group-kept (take m vs)
-    day-kept E.Resolve vs = resolve-kept
-    day-kept E.End vs = record { stands = record { told = omega arith; holds = h }; ranges = tt }
-    day-kept E.Bad vs = stray-kept
+    call-kept : (d : DayLine) → Kept (callDoes n t d)
+    call-kept (pay kind m k q x) = pay-kept m k q x
+    call-kept (deposit m x) = deposit-kept m x
+    call-kept (release m) = release-kept m
+    call-kept (group k) = group-kept k
+    call-kept resolve = resolve-kept
+
+    day-kept : (e : Entry) → Kept (dayDoes n t e)
+    day-kept (opening o) = stray-kept
+    day-kept (day d) = call-kept d
+    day-kept end = record { stands = record { told = omega arith; holds = h }; ranges = tt }
+    day-kept bad = stray-kept
 
   -- ---- any line
-  pub does-kept : (g : Stage) (t : Tables) (e : Entry) (vs : List ℕ) → ((i : ℕ) → getD (t .counters) i 0 < 4294967296) → Stands g t → Kept (doesOf n g t e vs)
-  does-kept G.House t e vs w s = house-kept t s e
-  does-kept (G.Members count k) t e vs w s = member-kept count k t s e
-  does-kept G.Day t e vs w s = day-kept t s w e vs
-  does-kept (G.Ending k) t e vs w s = record { stands = s; ranges = tt }
-  does-kept G.Over t e vs w s = record { stands = s; ranges = tt }
+  pub does-kept : (g : Stage) (t : Tables) (e : Entry) → ((i : ℕ) → getD (t .counters) i 0 ≤ lastNumber) → Stands g t → Kept (doesOf n g t e)
+  does-kept G.House t e w s = house-kept t s e
+  does-kept (G.Members count k) t e w s = member-kept count k t s e
+  does-kept G.Day t e w s = day-kept t s w e
+  does-kept (G.Ending k) t e w s = record { stands = s; ranges = tt }
+  does-kept G.Over t e w s = record { stands = s; ranges = tt }
 
 -- ---- the lines at `end`
 module _ (t : Tables) (h : Holds t) where

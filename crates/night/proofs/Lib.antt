@@ -1,6 +1,6 @@
 pub mod Opening
 pub mod Settling
 pub mod EndLines
-pub mod Stages
+pub mod Found
 pub mod Amounts
 pub mod Kept

@@ -21,71 +21,75 @@ use Rattle.numbers.proofs.Signs.{held-small}
 use Rattle.opening.specs.Open.{openAct}
 use Rattle.answers.specs.Outcome.{outcome, held as heldOn}
 use Rattle.answers.specs.declared.Opened.{Opened}
-use Rattle.answers.specs.declared.Opened.the-variants as opening
+use Rattle.answers.specs.declared.Opened.the-variants as opens
 use Rattle.answers.specs.declared.Refusal.{Refusal}
 use Rattle.answers.specs.declared.Refusal.the-variants.{Opening, Line}
+use Rattle.tables.specs.Sizes.{members}
+use Rattle.dayfile.specs.Reading.{meant}
+use Rattle.dayfile.specs.declared.OpeningLine.{OpeningLine}
+use Rattle.dayfile.specs.declared.OpeningLine.the-variants as O
 use Rattle.dayfile.specs.declared.Entry.{Entry}
 use Rattle.dayfile.specs.declared.Entry.the-variants as E
 use Rattle.print.specs.declared.Says.the-variants as S
 use Rattle.night.specs.declared.Stage.the-variants as G
 use Rattle.night.specs.declared.Said.the-variants.{One}
 use Rattle.night.specs.declared.Does.{Does}
-use Rattle.tables.specs.Layout.{Tables}
+use Rattle.tables.specs.Layout.{linesAt, Tables}
 use Rattle.night.specs.Lines.{did, quiet, refusal, stops, houseDoes, given, memberDoes, openSays, openStage, balancesGiven, linesGiven, opensTo, openDoes}
 
--- any line but a house line stops the night,
-pub house-other : (n : ℕ) (t : Tables) (e : Entry) → OneOf (1 ∷ 2 ∷ 3 ∷ 4 ∷ 5 ∷ 6 ∷ 7 ∷ 8 ∷ []) (tagOf the-type e) → houseDoes n t e ≡ stops n Line t
-house-other n t (E.House m) k = absurd (miss (1 ∷ 2 ∷ 3 ∷ 4 ∷ 5 ∷ 6 ∷ 7 ∷ 8 ∷ []) 0 tt k)
-house-other n t (E.Member m b l) k = refl
-house-other n t (E.Pay m i q x) k = refl
-house-other n t (E.Deposit m x) k = refl
-house-other n t (E.Release m) k = refl
-house-other n t (E.Group m) k = refl
-house-other n t E.Resolve k = refl
+-- any line but one of the opening stops the night,
+pub house-other : (n : ℕ) (t : Tables) (e : Entry) → OneOf (1 ∷ 2 ∷ 3 ∷ []) (tagOf the-type e) → houseDoes n t (meant e []) ≡ stops n Line t
+house-other n t (E.Opening o) k = absurd (miss (1 ∷ 2 ∷ 3 ∷ []) 0 tt k)
+house-other n t (E.Day d) k = refl
 house-other n t E.End k = refl
 house-other n t E.Bad k = refl
 
-module _ (n : ℕ) (t : Tables) (e : Entry) (count : ℕ) (q : e ≡ E.House count) where
-  -- a count of 0 stops the night,
-  pub house-none : count < 1 → houseDoes n t e ≡ stops n Opening t
-  house-none h = rw (q, lt-leb 1 count h)
+module _ (n : ℕ) (t : Tables) {e : Entry} {o : OpeningLine} (p : e ≡ E.Opening o) where
+  -- so does a member line,
+  pub house-member : {m : ℕ} {b : ℤ} {l : ℕ} → o ≡ O.Member m b l → houseDoes n t (meant e []) ≡ stops n Line t
+  house-member q = rw (p, q)
 
-  -- one above 64 too,
-  pub house-many : 1 ≤ count → 64 < count → houseDoes n t e ≡ stops n Opening t
-  house-many h l = rw (q, le-leb 1 count h, lt-leb count 64 l)
+  module _ (count : ℕ) (q : o ≡ O.House count) where
+    -- a count of 0,
+    pub house-none : count < 1 → houseDoes n t (meant e []) ≡ stops n Opening t
+    house-none h = rw (p, q, lt-leb 1 count h)
 
-  -- and the others begin the member lines
-  pub house-opens : 1 ≤ count → count ≤ 64 → houseDoes n t e ≡ quiet (G.Members count 0) t
-  house-opens h l = rw (q, le-leb 1 count h, le-leb count 64 l)
+    -- and one above 64;
+    pub house-many : 1 ≤ count → members < count → houseDoes n t (meant e []) ≡ stops n Opening t
+    house-many h l = rw (p, q, le-leb 1 count h, lt-leb count members l)
+
+    -- the others begin the member lines
+    pub house-opens : 1 ≤ count → count ≤ members → houseDoes n t (meant e []) ≡ quiet (G.Members count 0) t
+    house-opens h l = rw (p, q, le-leb 1 count h, le-leb count members l)
 
 -- what was stored is what was given
-pub give-did : (a a₁ : List ℤ) (k : ℕ) (b : ℤ) (l : ℕ) → natAbs b < 10 ^ mostDigits → a₁ ≡ set (set a k (toZ w64 (ofZ w64 b))) (64 + k) (pos l) → a₁ ≡ set (set a k b) (64 + k) (pos l)
+pub give-did : (a a₁ : List ℤ) (k : ℕ) (b : ℤ) (l : ℕ) → natAbs b < 10 ^ mostDigits → a₁ ≡ set (set a k (toZ w64 (ofZ w64 b))) (linesAt + k) (pos l) → a₁ ≡ set (set a k b) (linesAt + k) (pos l)
 give-did a a₁ k b l h q = q ∙ rw (toZ-ofZ {w = w64} (held-small b h))
 
--- any line but a member line stops the night,
-pub member-none : (n count k : ℕ) (t : Tables) (e : Entry) → OneOf (0 ∷ 2 ∷ 3 ∷ 4 ∷ 5 ∷ 6 ∷ 7 ∷ 8 ∷ []) (tagOf the-type e) → memberDoes n count k t e ≡ stops n Line t
-member-none n count k t (E.House m) o = refl
-member-none n count k t (E.Member m b l) o = absurd (miss (0 ∷ 2 ∷ 3 ∷ 4 ∷ 5 ∷ 6 ∷ 7 ∷ 8 ∷ []) 1 tt o)
-member-none n count k t (E.Pay m i q x) o = refl
-member-none n count k t (E.Deposit m x) o = refl
-member-none n count k t (E.Release m) o = refl
-member-none n count k t (E.Group m) o = refl
-member-none n count k t E.Resolve o = refl
-member-none n count k t E.End o = refl
-member-none n count k t E.Bad o = refl
+-- any line but one of the opening stops the night,
+pub member-none : (n count k : ℕ) (t : Tables) (e : Entry) → OneOf (1 ∷ 2 ∷ 3 ∷ []) (tagOf the-type e) → memberDoes n count k t (meant e []) ≡ stops n Line t
+member-none n count k t (E.Opening o) w = absurd (miss (1 ∷ 2 ∷ 3 ∷ []) 0 tt w)
+member-none n count k t (E.Day d) w = refl
+member-none n count k t E.End w = refl
+member-none n count k t E.Bad w = refl
 
-module _ (n count k : ℕ) (t : Tables) (e : Entry) (m : ℕ) (b : ℤ) (l : ℕ) (q : e ≡ E.Member m b l) where
-  -- any number but the next stops the night,
-  pub member-other : (m ≡ k + 1 → ⊥) → memberDoes n count k t e ≡ stops n Line t
-  member-other h = rw (q, ne-eqb m (k + 1) h)
+module _ (n count k : ℕ) (t : Tables) {e : Entry} {o : OpeningLine} (p : e ≡ E.Opening o) where
+  -- so does a house line,
+  pub member-house : {m : ℕ} → o ≡ O.House m → memberDoes n count k t (meant e []) ≡ stops n Line t
+  member-house q = rw (p, q)
 
-  -- a member before the last is given,
-  pub member-given : m ≡ k + 1 → k + 1 < count → memberDoes n count k t e ≡ quiet (G.Members count (k + 1)) (given t k b l)
-  member-given h j = rw (q, eq-eqb m (k + 1) h, lt-ltb (k + 1) count j)
+  module _ (m : ℕ) (b : ℤ) (l : ℕ) (q : o ≡ O.Member m b l) where
+    -- and any number but the next;
+    pub member-other : (m ≡ k + 1 → ⊥) → memberDoes n count k t (meant e []) ≡ stops n Line t
+    member-other h = rw (p, q, ne-eqb m (k + 1) h)
 
-  -- and the last opens the house
-  pub member-opens : m ≡ k + 1 → count ≤ k + 1 → memberDoes n count k t e ≡ openDoes n count (given t k b l)
-  member-opens h j = rw (q, eq-eqb m (k + 1) h, le-ltb (k + 1) count j)
+    -- a member before the last is given,
+    pub member-given : m ≡ k + 1 → k + 1 < count → memberDoes n count k t (meant e []) ≡ quiet (G.Members count (k + 1)) (given t k b l)
+    member-given h j = rw (p, q, eq-eqb m (k + 1) h, lt-ltb (k + 1) count j)
+
+    -- and the last opens the house
+    pub member-opens : m ≡ k + 1 → count ≤ k + 1 → memberDoes n count k t (meant e []) ≡ openDoes n count (given t k b l)
+    member-opens h j = rw (p, q, eq-eqb m (k + 1) h, le-ltb (k + 1) count j)
 
 -- one account more of those from a place on
 pub block-turn : (b a : List ℤ) (from i : ℕ) (x : ℤ) → i < length b → from + i < length a → x ≡ getD a (from + i) (pos 0)
@@ -96,11 +100,11 @@ block-turn b a from i x l h e q =
 
 -- what opening the house did, from what the call answered and left
 module _ (n count : ℕ) (t : Tables) (r : Does) (o : Opened) where
-  pub open-accepted : (s : ℤ) → mag s < 2 ^ 63 → o ≡ opening.Done s → r ≡ record { said = One (S.Open n count (toZ w64 (ofZ w64 s))); stage = G.Day }
+  pub open-accepted : (s : ℤ) → mag s < 2 ^ 63 → o ≡ opens.Done s → r ≡ record { said = One (S.Open n count (toZ w64 (ofZ w64 s))); stage = G.Day }
       → r ≡ record { said = One (openSays n count o); stage = openStage o }
   open-accepted s h e q = q ∙ rw (e, toZ-ofZ {w = w64} (held s h))
 
-  pub open-refused : (k : Refusal) → o ≡ opening.Refused k → r ≡ record { said = One (refusal n k); stage = G.Over } → r ≡ record { said = One (openSays n count o); stage = openStage o }
+  pub open-refused : (k : Refusal) → o ≡ opens.Refused k → r ≡ record { said = One (refusal n k); stage = G.Over } → r ≡ record { said = One (openSays n count o); stage = openStage o }
   open-refused k e q = q ∙ rw e
 
   pub open-did : {W : Tables} (b l : List ℤ) → r ≡ record { said = One (openSays n count o); stage = openStage o }

@@ -13,6 +13,7 @@ use lib.Seq.{ext-getD, getD-take, length-take-le, getD-set-same, getD-set-other}
 use Rattle.rule.specs.Kernel.{Counts, sum}
 use Rattle.rule.specs.House.{House, waits}
 use Rattle.rule.specs.Verdict.{verdict}
+use Rattle.tables.specs.Sizes.{members, places}
 use Rattle.tables.specs.Layout.{Tables, membersIn, houseIn}
 use Rattle.tables.specs.State.{every}
 use Rattle.tables.specs.Holds.{Holds}
@@ -32,7 +33,7 @@ use Rattle.answers.specs.declared.Resolved.{Resolved}
 use Rattle.answers.specs.declared.Resolved.the-variants.{Done, Refused}
 use Rattle.answers.proofs.Outcomes.{held-fine, held-bad}
 use Rattle.night.specs.declared.Stage.the-variants as G
-use Rattle.night.specs.Lines.{says, least, resolutionSays, resolveDoes}
+use Rattle.night.specs.Lines.{says, mostCount, least, resolutionSays, resolveDoes}
 
 -- ---- counts in 16 bits
 
@@ -43,14 +44,14 @@ least-turn counts k i x l e f j q = elim (decLt j i) [
   | no h ↦ let z : j ≡ i = omega arith in rw z (getD-set-same k i x 0 l ∙ e)
 ]
 
-least-few : (x w : ℕ) → w ≤ 2048 → least x ≤ w → x ≡ least x
-least-few x w f h = elim (decLt x 65536) [
-  | yes q ↦ sym (ap (λ b. cond b x 65535) (lt-ltb x 65536 q))
-  | no q ↦ let e = ap (λ b. cond b x 65535) (le-ltb x 65536 (omega arith)) in absurd (omega arith)
+least-few : (x w : ℕ) → w ≤ places → least x ≤ w → x ≡ least x
+least-few x w f h = elim (decLt x mostCount) [
+  | yes q ↦ sym (ap (λ b. cond b x mostCount) (lt-ltb x mostCount q))
+  | no q ↦ let e = ap (λ b. cond b x mostCount) (le-ltb x mostCount (omega arith)) in absurd (omega arith)
 ]
 
-least-same : (x w : ℕ) → w ≤ 2048 → x ≤ w → x ≡ least x
-least-same x w f h = sym (ap (λ b. cond b x 65535) (lt-ltb x 65536 (omega arith)))
+least-same : (x w : ℕ) → w ≤ places → x ≤ w → x ≡ least x
+least-same x w f h = sym (ap (λ b. cond b x mostCount) (lt-ltb x mostCount (omega arith)))
 
 module _ (t : Tables) (h : Holds t) (k w : List ℕ) (same : length w ≡ length k) (are : (i : ℕ) → i < length k → getD w i 0 ≡ least (getD k i 0)) where
   counts-in : (l : List ℕ) → isCounts (membersIn t) (houseIn t) l ≡ true → (length l ≡ membersIn t) × ((i : ℕ) → i < membersIn t → getD l i 0 ≤ waits (houseIn t) i)
@@ -73,7 +74,7 @@ module _ (t : Tables) (h : Holds t) (k w : List ℕ) (same : length w ≡ length
   ]
 
 -- as the code hands them on: the first m of each
-pub group-narrowed : (t : Tables) → Holds t → (m : ℕ) (counts r : List ℕ) → m ≤ 64 → m ≤ length counts → length r ≡ 64
+pub group-narrowed : (t : Tables) → Holds t → (m : ℕ) (counts r : List ℕ) → m ≤ members → m ≤ length counts → length r ≡ members
     → ((i : ℕ) → i < m → getD r i 0 ≡ least (getD counts i 0)) → held (groupAct (take m r)) t ≡ held (groupAct (take m counts)) t
 group-narrowed t h m counts r few l e f =
     let u = length-take-le m counts l in

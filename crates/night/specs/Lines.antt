@@ -15,7 +15,7 @@ use Rattle.rule.specs.Table.{queueOf}
 use Rattle.sets.specs.Sets.{sizeOf, lowestOf, lowestIn}
 use Rattle.booking.specs.Booking.{listed, bookedIn}
 use Rattle.tables.specs.Sizes.{members}
-use Rattle.tables.specs.Layout.{Tables, tables, membersIn, houseIn, countOf, balanceOf, moneyOf, wordsOf}
+use Rattle.tables.specs.Layout.{linesAt, Tables, tables, membersIn, houseIn, countOf, balanceOf, moneyOf, wordsOf}
 use Rattle.answers.specs.Codes.{codeOf}
 use Rattle.answers.specs.Outcome.{Outcome, held}
 use Rattle.opening.specs.Open.{openAct}
@@ -33,13 +33,12 @@ use Rattle.answers.specs.declared.Grouped.the-variants as grouping
 use Rattle.answers.specs.declared.Refusal.{Refusal}
 use Rattle.answers.specs.declared.Refusal.the-variants.{Opening, Line}
 use Rattle.answers.specs.declared.Opened.{Opened}
-use Rattle.answers.specs.declared.Opened.the-variants as opening
+use Rattle.answers.specs.declared.Opened.the-variants as opens
 use Rattle.answers.specs.declared.Deposited.{Deposited}
 use Rattle.answers.specs.declared.Deposited.the-variants as depositing
 use Rattle.answers.specs.declared.Submitted.{Submitted}
 use Rattle.answers.specs.declared.Submitted.the-variants as submitting
-use Rattle.dayfile.specs.declared.Entry.{Entry}
-use Rattle.dayfile.specs.declared.Entry.the-variants as E
+use Rattle.dayfile.specs.Entries.{OpeningLine, house, member, DayLine, pay, deposit, release, group, resolve, Entry, opening, day, end, bad}
 use Rattle.print.specs.declared.Says.{Says}
 use Rattle.print.specs.declared.Says.the-variants as S
 use Rattle.night.specs.declared.Stage.{Stage}
@@ -48,23 +47,28 @@ use Rattle.night.specs.declared.Said.{Said}
 use Rattle.night.specs.declared.Said.the-variants.{Nothing, One}
 use Rattle.night.specs.declared.Does.{Does}
 
--- what a line does
+-- what a line does: the lines that it says on the sheet at once, the stage after it, which may have more to say, and the tables after it
 pub record Did : Type 0 where
-  pub said : Said
+  pub said : List Says
   pub stage : Stage
   pub after : Tables
 
+-- the lines that the code's answer says
+abbrev pub saidIn : Said → List Says
+saidIn Nothing = []
+saidIn (One s) = s ∷ []
+
 -- the answer of the code, with the tables after it
 abbrev pub did : Does → List ℤ → List ℕ → List ℕ → Did
-did r a c p = record { said = r .said; stage = r .stage; after = tables a c p }
+did r a c p = record { said = saidIn (r .said); stage = r .stage; after = tables a c p }
 
 -- nothing is said
 abbrev pub quiet : Stage → Tables → Did
-quiet g t = record { said = Nothing; stage = g; after = t }
+quiet g t = record { said = []; stage = g; after = t }
 
 -- one line is said
 abbrev pub says : Says → Stage → Tables → Did
-says s g t = record { said = One s; stage = g; after = t }
+says s g t = record { said = s ∷ []; stage = g; after = t }
 
 -- a call's line: what is said of its answer, and the tables after it
 abbrev pub lineOf : {A : Type 0} → (A → Says) → Outcome A → Did
@@ -82,35 +86,31 @@ stops n r t = says (refusal n r) G.Over t
 
 -- the house line is first: a count of 1 to 64 begins the member lines
 abbrev pub houseDoes : ℕ → Tables → Entry → Did
-houseDoes n t (E.House count) = cond (leb 1 count && leb count members) (quiet (G.Members count 0) t) (stops n Opening t)
-houseDoes n t (E.Member m b l) = stops n Line t
-houseDoes n t (E.Pay m k q x) = stops n Line t
-houseDoes n t (E.Deposit m x) = stops n Line t
-houseDoes n t (E.Release m) = stops n Line t
-houseDoes n t (E.Group m) = stops n Line t
-houseDoes n t E.Resolve = stops n Line t
-houseDoes n t E.End = stops n Line t
-houseDoes n t E.Bad = stops n Line t
+houseDoes n t (opening (house count)) = cond (leb 1 count && leb count members) (quiet (G.Members count 0) t) (stops n Opening t)
+houseDoes n t (opening (member m b l)) = stops n Line t
+houseDoes n t (day d) = stops n Line t
+houseDoes n t end = stops n Line t
+houseDoes n t bad = stops n Line t
 
 -- the balance and the line of the member behind k others, kept in the accounts
 abbrev pub given : Tables → ℕ → ℤ → ℕ → Tables
-given t k b l = tables (set (set (t .accounts) k b) (64 + k) (pos l)) (t .counters) (t .pays)
+given t k b l = tables (set (set (t .accounts) k b) (linesAt + k) (pos l)) (t .counters) (t .pays)
 
 -- what opening a house of count members answers, and the tables after it
 abbrev pub openSays : ℕ → ℕ → Opened → Says
-openSays n count (opening.Done sum) = S.Open n count sum
-openSays n count (opening.Refused r) = refusal n r
+openSays n count (opens.Done sum) = S.Open n count sum
+openSays n count (opens.Refused r) = refusal n r
 
 abbrev pub openStage : Opened → Stage
-openStage (opening.Done sum) = G.Day
-openStage (opening.Refused r) = G.Over
+openStage (opens.Done sum) = G.Day
+openStage (opens.Refused r) = G.Over
 
 -- the balances and the lines that were given
 abbrev pub balancesGiven : ℕ → Tables → List ℤ
 balancesGiven count t = take count (t .accounts)
 
 abbrev pub linesGiven : ℕ → Tables → List ℤ
-linesGiven count t = take count (drop 64 (t .accounts))
+linesGiven count t = take count (drop linesAt (t .accounts))
 
 -- the house is opened with what was given
 abbrev pub opensTo : ℕ → ℕ → Outcome Opened → Did
@@ -125,15 +125,11 @@ givenDoes n count k t = cond (ltb (k + 1) count) (quiet (G.Members count (k + 1)
 
 -- a member line comes with the next number
 abbrev pub memberDoes : ℕ → ℕ → ℕ → Tables → Entry → Did
-memberDoes n count k t (E.Member m b l) = cond (eqb m (k + 1)) (givenDoes n count k (given t k b l)) (stops n Line t)
-memberDoes n count k t (E.House m) = stops n Line t
-memberDoes n count k t (E.Pay m i q x) = stops n Line t
-memberDoes n count k t (E.Deposit m x) = stops n Line t
-memberDoes n count k t (E.Release m) = stops n Line t
-memberDoes n count k t (E.Group m) = stops n Line t
-memberDoes n count k t E.Resolve = stops n Line t
-memberDoes n count k t E.End = stops n Line t
-memberDoes n count k t E.Bad = stops n Line t
+memberDoes n count k t (opening (member m b l)) = cond (eqb m (k + 1)) (givenDoes n count k (given t k b l)) (stops n Line t)
+memberDoes n count k t (opening (house m)) = stops n Line t
+memberDoes n count k t (day d) = stops n Line t
+memberDoes n count k t end = stops n Line t
+memberDoes n count k t bad = stops n Line t
 
 -- ---- the day: it goes on after a refusal
 
@@ -169,9 +165,13 @@ groupSays n (grouping.Refused r) = refusal n r
 abbrev pub groupDoes : ℕ → Tables → List ℕ → Did
 groupDoes n t k = lineOf (groupSays n) (held (groupAct k) t)
 
--- a count in 16 bits: the smaller of it and 65,535, which is more than ever waits
+-- the largest count in 16 bits, which is more than ever waits
+abbrev pub mostCount : ℕ
+mostCount = 65_535
+
+-- a count in 16 bits: the smaller of it and that
 abbrev pub least : ℕ → ℕ
-least x = cond (ltb x 65536) x 65535
+least x = cond (ltb x mostCount) x mostCount
 
 -- the verdict, how many payments, their sum, how many members still wait, and the lowest of them
 abbrev pub resolveSays : ℕ → ℕ → House → Counts → Says
@@ -189,25 +189,28 @@ resolveDoes n t = says (resolveSays n (membersIn t) (houseIn t) (listed (largest
 abbrev pub strays : ℕ → Tables → Did
 strays n t = says (refusal n Line) G.Day t
 
--- vs are the numbers that the line left, of which a group's are its counts
-abbrev pub dayDoes : ℕ → Tables → Entry → List ℕ → Did
-dayDoes n t (E.House m) vs = strays n t
-dayDoes n t (E.Member m b l) vs = strays n t
-dayDoes n t (E.Pay m k q x) vs = payDoes n t m k q x
-dayDoes n t (E.Deposit m x) vs = depositDoes n t m x
-dayDoes n t (E.Release m) vs = releaseDoes n t m
-dayDoes n t (E.Group m) vs = groupDoes n t (take m vs)
-dayDoes n t E.Resolve vs = resolveDoes n t
-dayDoes n t E.End vs = quiet (G.Ending 0) t
-dayDoes n t E.Bad vs = strays n t
+-- a line of the day is one call
+abbrev pub callDoes : ℕ → Tables → DayLine → Did
+callDoes n t (pay kind m k q x) = payDoes n t m k q x
+callDoes n t (deposit m x) = depositDoes n t m x
+callDoes n t (release m) = releaseDoes n t m
+callDoes n t (group k) = groupDoes n t k
+callDoes n t resolve = resolveDoes n t
+
+-- any line, once the house is open
+abbrev pub dayDoes : ℕ → Tables → Entry → Did
+dayDoes n t (opening o) = strays n t
+dayDoes n t (day d) = callDoes n t d
+dayDoes n t end = quiet (G.Ending 0) t
+dayDoes n t bad = strays n t
 
 -- line n, by the stage that it finds
-abbrev pub doesOf : ℕ → Stage → Tables → Entry → List ℕ → Did
-doesOf n G.House t e vs = houseDoes n t e
-doesOf n (G.Members count k) t e vs = memberDoes n count k t e
-doesOf n G.Day t e vs = dayDoes n t e vs
-doesOf n (G.Ending k) t e vs = quiet (G.Ending k) t
-doesOf n G.Over t e vs = quiet G.Over t
+abbrev pub doesOf : ℕ → Stage → Tables → Entry → Did
+doesOf n G.House t e = houseDoes n t e
+doesOf n (G.Members count k) t e = memberDoes n count k t e
+doesOf n G.Day t e = dayDoes n t e
+doesOf n (G.Ending k) t e = quiet (G.Ending k) t
+doesOf n G.Over t e = quiet G.Over t
 
 -- ---- at `end`
 

@@ -11,19 +11,25 @@ use answers::Released;
 use answers::Resolution;
 use answers::Resolved;
 use answers::Submitted;
+use dayfile::DayLine;
 use dayfile::Entry;
 use print::Says;
+use tables::House;
 use tables::steps::wide;
 ghost use mathlib.Core.Path.{_≡_};
 ghost use Prim.Native.Nat.{ℕ, _≤_, _<_};
 ghost use lib.ListN.{length, getD, take};
+ghost use Rattle.tables.specs.Sizes.{members};
 ghost use Rattle.tables.specs.Layout.{tables};
 ghost use Rattle.tables.specs.Holds.{Holds};
+ghost use Rattle.dayfile.specs.Reading.{dayMeant, meant, dayCounts, Read};
 ghost use Rattle.answers.specs.declared.Refusal.the-variants.{Line};
 ghost use Rattle.night.specs.declared.Stage.the-variants.{Day};
 ghost use Rattle.night.specs.declared.Said.the-variants.{One};
-ghost use Rattle.night.specs.Lines.{says as line, did, refusal, payDoes, depositDoes, releaseDoes, groupDoes, resolveDoes, least, resolutionSays, dayDoes};
-ghost use Rattle.night.specs.Stands.{Read};
+ghost use Rattle.night.specs.Lines.{says as line, did, refusal, payDoes, depositDoes, releaseDoes, groupDoes, resolveDoes, least, resolutionSays, callDoes, dayDoes};
+
+// The largest count in 16 bits.
+const MOST_COUNT: u64 = 65_535;
 
 // A stray or a bad line: the night goes on.
 fn stray(n: u64) -> Does
@@ -32,7 +38,7 @@ fn stray(n: u64) -> Does
     says(refused(n, Refusal::Line), Stage::Day)
 }
 
-// A line of the day.
+// A line, once the house is open.
 pub fn day_line(
     accounts: &mut [i64],
     counters: &mut [u32],
@@ -42,18 +48,34 @@ pub fn day_line(
     e: Entry,
 ) -> Does
     requires { ⌜ Holds (tables (now accounts) (now counters) (now pays)) × Read e (now counts) ⌝ }
-    ensures { λ r. ⌜ did r (now (accounts .exit)) (now (counters .exit)) (now (pays .exit)) ≡ dayDoes n (tables (now (accounts .entry)) (now (counters .entry)) (now (pays .entry))) e (now (counts .entry)) ⌝ }
+    ensures { λ r. ⌜ did r (now (accounts .exit)) (now (counters .exit)) (now (pays .exit)) ≡ dayDoes n (tables (now (accounts .entry)) (now (counters .entry)) (now (pays .entry))) (meant e (now (counts .entry))) ⌝ }
 {
     match e {
-        Entry::House(_) => stray(n),
-        Entry::Member(_, _, _) => stray(n),
-        Entry::Pay(m, k, q, x) => says(pay(accounts, counters, pays, n, m, k, q, x), Stage::Day),
-        Entry::Deposit(m, x) => says(deposit(accounts, counters, pays, n, m, x), Stage::Day),
-        Entry::Release(m) => says(release(accounts, counters, pays, n, m), Stage::Day),
-        Entry::Group(m) => says(group(accounts, counters, pays, counts, n, m), Stage::Day),
-        Entry::Resolve => says(resolve(accounts, counters, pays, n), Stage::Day),
+        Entry::Opening(_) => stray(n),
+        Entry::Day(d) => says(call(accounts, counters, pays, counts, n, d), Stage::Day),
         Entry::End => quiet(Stage::Ending(0)),
         Entry::Bad => stray(n),
+    }
+}
+
+// The call that a line of the day asks for, and what is said of it.
+fn call(
+    accounts: &mut [i64],
+    counters: &mut [u32],
+    pays: &mut [u64],
+    counts: &[u64],
+    n: u64,
+    d: DayLine,
+) -> Says
+    requires { ⌜ Holds (tables (now accounts) (now counters) (now pays)) × (dayCounts d ≤ members) × (dayCounts d ≤ length (now counts)) ⌝ }
+    ensures { λ r. ⌜ line r Day (tables (now (accounts .exit)) (now (counters .exit)) (now (pays .exit))) ≡ callDoes n (tables (now (accounts .entry)) (now (counters .entry)) (now (pays .entry))) (dayMeant d (now (counts .entry))) ⌝ }
+{
+    match d {
+        DayLine::Pay(_, m, k, q, x) => pay(accounts, counters, pays, n, m, k, q, x),
+        DayLine::Deposit(m, x) => deposit(accounts, counters, pays, n, m, x),
+        DayLine::Release(m) => release(accounts, counters, pays, n, m),
+        DayLine::Group(m) => group(accounts, counters, pays, counts, n, m),
+        DayLine::Resolve => resolve(accounts, counters, pays, n),
     }
 }
 
@@ -124,7 +146,7 @@ fn group(
     n: u64,
     m: usize,
 ) -> Says
-    requires { ⌜ Holds (tables (now accounts) (now counters) (now pays)) × (m ≤ 64) × (m ≤ length (now counts)) ⌝ }
+    requires { ⌜ Holds (tables (now accounts) (now counters) (now pays)) × (m ≤ members) × (m ≤ length (now counts)) ⌝ }
     ensures { λ r. ⌜ line r Day (tables (now (accounts .exit)) (now (counters .exit)) (now (pays .exit))) ≡ groupDoes n (tables (now (accounts .entry)) (now (counters .entry)) (now (pays .entry))) (take m (now (counts .entry))) ⌝ }
 {
     let k = narrowed(counts, m);
@@ -136,11 +158,11 @@ fn group(
 }
 
 // The first m counts in 16 bits: one that is above that is above what waits.
-fn narrowed(counts: &[u64], m: usize) -> [u16; 64]
-    requires { ⌜ (m ≤ 64) × (m ≤ length (now counts)) ⌝ }
-    ensures { λ r. ⌜ (length r ≡ 64) × ((i : ℕ) → i < m → getD r i 0 ≡ least (getD (now (counts .entry)) i 0)) ⌝ }
+fn narrowed(counts: &[u64], m: usize) -> [u16; House::MEMBERS]
+    requires { ⌜ (m ≤ members) × (m ≤ length (now counts)) ⌝ }
+    ensures { λ r. ⌜ (length r ≡ members) × ((i : ℕ) → i < m → getD r i 0 ≡ least (getD (now (counts .entry)) i 0)) ⌝ }
 {
-    let mut k = [0u16; 64];
+    let mut k = [0u16; House::MEMBERS];
     let mut i = 0;
     while i < m {
         k[i] = narrow(counts[i]);
@@ -149,11 +171,15 @@ fn narrowed(counts: &[u64], m: usize) -> [u16; 64]
     k
 }
 
-// The smaller of x and 65,535.
+// The smaller of x and the largest count in 16 bits.
 fn narrow(x: u64) -> u16
     ensures { λ r. ⌜ r ≡ least x ⌝ }
 {
-    if x < 65536 { x as u16 } else { 65535 }
+    if x < MOST_COUNT {
+        x as u16
+    } else {
+        MOST_COUNT as u16
+    }
 }
 
 // A resolution, and what is said of it.
@@ -161,7 +187,7 @@ fn resolve(accounts: &mut [i64], counters: &mut [u32], pays: &mut [u64], n: u64)
     requires { ⌜ Holds (tables (now accounts) (now counters) (now pays)) ⌝ }
     ensures { λ r. ⌜ line r Day (tables (now (accounts .exit)) (now (counters .exit)) (now (pays .exit))) ≡ resolveDoes n (tables (now (accounts .entry)) (now (counters .entry)) (now (pays .entry))) ⌝ }
 {
-    let mut k = [0u16; 64];
+    let mut k = [0u16; House::MEMBERS];
     let m = wide(counters[0]);
     let r = resolving::resolve(accounts, counters, pays, &mut k[..m]);
     match r {

@@ -2,20 +2,25 @@
 mod day;
 mod ending;
 mod openings;
+mod stages;
 
 use answers::Refusal;
 use dayfile::Entry;
 pub use ending::end_line;
 pub use ending::end_next;
 use print::Says;
+pub use stages::ending_at;
+pub use stages::is_ending;
+pub use stages::is_over;
 ghost use mathlib.Core.Path.{_≡_};
 ghost use Rattle.night.specs.declared.Said.the-variants.{Nothing, One};
 ghost use Rattle.tables.specs.Layout.{tables};
+ghost use Rattle.dayfile.specs.Reading.{meant, Read};
 ghost use Rattle.night.specs.Lines.{did, refusal, doesOf};
-ghost use Rattle.night.specs.Stands.{Stands, Read};
+ghost use Rattle.night.specs.Stands.{Stands};
 
 // Where the night stands: before the house line; in the opening of a house of some members, of whom some were given; in the day; at the
-// end, with some of its lines told; over.
+// end, with some of its lines said; over.
 pub enum Stage {
     House,
     Members(u64, u64),
@@ -24,7 +29,7 @@ pub enum Stage {
     Over,
 }
 
-// What a line says on the sheet.
+// What a line says on the sheet at once; what it has still to say then, the stage after it says line by line.
 pub enum Said {
     Nothing,
     One(Says),
@@ -47,7 +52,7 @@ pub fn answer(
     e: Entry,
 ) -> Does
     requires { ⌜ Stands stage (tables (now accounts) (now counters) (now pays)) × Read e (now counts) ⌝ }
-    ensures { λ r. ⌜ did r (now (accounts .exit)) (now (counters .exit)) (now (pays .exit)) ≡ doesOf n stage (tables (now (accounts .entry)) (now (counters .entry)) (now (pays .entry))) e (now (counts .entry)) ⌝ }
+    ensures { λ r. ⌜ did r (now (accounts .exit)) (now (counters .exit)) (now (pays .exit)) ≡ doesOf n stage (tables (now (accounts .entry)) (now (counters .entry)) (now (pays .entry))) (meant e (now (counts .entry))) ⌝ }
 {
     match stage {
         Stage::House => openings::house_line(n, e),

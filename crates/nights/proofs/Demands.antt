@@ -27,7 +27,8 @@ use Rattle.print.specs.Lines.{textOf}
 use Rattle.night.specs.Lines.{balanceSays}
 use Rattle.cut.specs.Lines.{Line, linesOf}
 use Rattle.cut.specs.Chunks.{runOf}
-use Rattle.sheet.specs.Sheet.{Night, mostLines, textsOf, entryIn, stepOf, morning, closed, sheetOf}
+use Rattle.dayfile.specs.Entries.{mostLines}
+use Rattle.sheet.specs.Sheet.{Night, textsOf, entryIn, stepOf, morning, closed, sheetOf}
 use Rattle.days.specs.Days.{Request, after, accepted, afterAll, made, Inside, Ended, openingOf, Begun, Equal}
 use Rattle.days.proofs.Joins.{deposits-join, payments-join}
 use Rattle.days.proofs.Chains.{chain-carries, after-join, made-join, inside-first}

@@ -16,16 +16,16 @@ use Rattle.answers.specs.declared.Refusal.the-variants as R
 use Rattle.answers.specs.declared.Opened.{Opened}
 use Rattle.answers.specs.declared.Opened.the-variants as opening
 use Rattle.opening.specs.Open.{openAct}
-use Rattle.dayfile.specs.declared.Entry.{Entry}
-use Rattle.dayfile.specs.declared.Entry.the-variants as E
+use Rattle.dayfile.specs.Entries as E
 use Rattle.cut.specs.Lines.{Line, linesOf}
 use Rattle.cut.specs.Chunks.{runOf}
 use Rattle.print.specs.Lines.{textOf}
 use Rattle.night.specs.declared.Stage.{Stage}
 use Rattle.night.specs.declared.Stage.the-variants as G
-use Rattle.night.specs.declared.Said.the-variants as D
 use Rattle.night.specs.Lines.{Did, quiet, refusal, stops, houseDoes, given, balancesGiven, linesGiven, opensTo, openDoes, givenDoes, memberDoes, doesOf}
-use Rattle.sheet.specs.Sheet.{mostLines, Night, told, isOver, finished, entryIn, countsIn, after, stopped, stepOf, morning, closed}
+use Rattle.dayfile.specs.Entries.{mostLines, Entry}
+use Rattle.night.specs.Stages.{told, isOver}
+use Rattle.sheet.specs.Sheet.{Night, finished, entryIn, after, stopped, stepOf, morning, closed}
 use Rattle.nights.specs.Files.{isEnd, nightAfter, Opens, requestsAfter, EndsIn, Comes, whole, refused}
 use Rattle.nights.proofs.Runs.{Gone, run-join, over-run}
 use Rattle.nights.proofs.Demands.{day-gone}
@@ -43,22 +43,18 @@ awaiting G.Over = false
 data Leads (s : Stage) (r : Did) : Type 0 where
   on : awaiting (r .stage) ≡ true → Leads s r
   opens : {count k : ℕ} → s ≡ G.Members count k → r .stage ≡ G.Day → Leads s r
-  over : (n : ℕ) (c : Refusal) → r .stage ≡ G.Over → r .said ≡ D.One (refusal n c) → Leads s r
+  over : (n : ℕ) (c : Refusal) → r .stage ≡ G.Over → r .said ≡ refusal n c ∷ [] → Leads s r
 
 house-by : (n count : ℕ) (t : Tables) (p : Bool) → Leads G.House (cond p (quiet (G.Members count 0) t) (stops n R.Opening t))
 house-by n count t true = on refl
 house-by n count t false = over n R.Opening refl refl
 
 house-leads : (n : ℕ) (t : Tables) (e : Entry) → Leads G.House (houseDoes n t e)
-house-leads n t (E.House count) = house-by n count t (leb 1 count && leb count members)
-house-leads n t (E.Member m b l) = over n R.Line refl refl
-house-leads n t (E.Pay m k q x) = over n R.Line refl refl
-house-leads n t (E.Deposit m x) = over n R.Line refl refl
-house-leads n t (E.Release m) = over n R.Line refl refl
-house-leads n t (E.Group m) = over n R.Line refl refl
-house-leads n t E.Resolve = over n R.Line refl refl
-house-leads n t E.End = over n R.Line refl refl
-house-leads n t E.Bad = over n R.Line refl refl
+house-leads n t (E.opening (E.house count)) = house-by n count t (leb 1 count && leb count members)
+house-leads n t (E.opening (E.member m b l)) = over n R.Line refl refl
+house-leads n t (E.day d) = over n R.Line refl refl
+house-leads n t E.end = over n R.Line refl refl
+house-leads n t E.bad = over n R.Line refl refl
 
 module _ (n count k : ℕ) where
   open-leads : (u : Outcome Opened) (o : Opened) → u .answer ≡ o → Leads (G.Members count k) (opensTo n count u)
@@ -74,22 +70,18 @@ module _ (n count k : ℕ) where
   member-by t u false = over n R.Line refl refl
 
   member-leads : (t : Tables) (e : Entry) → Leads (G.Members count k) (memberDoes n count k t e)
-  member-leads t (E.Member m b l) = member-by t (given t k b l) (eqb m (k + 1))
-  member-leads t (E.House m) = over n R.Line refl refl
-  member-leads t (E.Pay m i q x) = over n R.Line refl refl
-  member-leads t (E.Deposit m x) = over n R.Line refl refl
-  member-leads t (E.Release m) = over n R.Line refl refl
-  member-leads t (E.Group m) = over n R.Line refl refl
-  member-leads t E.Resolve = over n R.Line refl refl
-  member-leads t E.End = over n R.Line refl refl
-  member-leads t E.Bad = over n R.Line refl refl
+  member-leads t (E.opening (E.member m b l)) = member-by t (given t k b l) (eqb m (k + 1))
+  member-leads t (E.opening (E.house m)) = over n R.Line refl refl
+  member-leads t (E.day d) = over n R.Line refl refl
+  member-leads t E.end = over n R.Line refl refl
+  member-leads t E.bad = over n R.Line refl refl
 
-does-leads : (n : ℕ) (s : Stage) (t : Tables) (e : Entry) (vs : List ℕ) → awaiting s ≡ true → Leads s (doesOf n s t e vs)
-does-leads n G.House t e vs a = house-leads n t e
-does-leads n (G.Members count k) t e vs a = member-leads n count k t e
-does-leads n G.Day t e vs a = absurd (false≢true a)
-does-leads n (G.Ending k) t e vs a = absurd (false≢true a)
-does-leads n G.Over t e vs a = absurd (false≢true a)
+does-leads : (n : ℕ) (s : Stage) (t : Tables) (e : Entry) → awaiting s ≡ true → Leads s (doesOf n s t e)
+does-leads n G.House t e a = house-leads n t e
+does-leads n (G.Members count k) t e a = member-leads n count k t e
+does-leads n G.Day t e a = absurd (false≢true a)
+does-leads n (G.Ending k) t e a = absurd (false≢true a)
+does-leads n G.Over t e a = absurd (false≢true a)
 
 awaiting-on : (s : Stage) → awaiting s ≡ true → isOver s ≡ false
 awaiting-on G.House a = refl
@@ -117,13 +109,13 @@ over-ends d n c = record { earlier = d .sheet; parts = append-nil (d .sheet ++ t
 turn-by : (d : Night) (p : Bool) → ltb (d .lines) mostLines ≡ p → (r : Did) → Leads (d .stage) r → Turns d (finished (cond p (after d r) (stopped (d .lines + 1) d)))
 turn-by d true e r (on a) = on (awaiting-told (r .stage) a) refl
 turn-by d true e r (opens s q) = opens s (ap told q) refl (ltb-true (d .lines) mostLines e)
-turn-by d true e r (over n c q s) = over n c (rw q) (rw (q, s) (over-ends d n c))
+turn-by d true e r (over n c q s) = over n c (rw q) (rw (q, s, append-nil (textOf (refusal n c))) (over-ends d n c))
 turn-by d false e r l = over (d .lines + 1) R.Line refl (over-ends d (d .lines + 1) R.Line)
 
 step-turns : (d : Night) (x : Line) → awaiting (d .stage) ≡ true → Turns d (stepOf d x)
 step-turns d x a =
-    let s : stepOf d x ≡ finished (cond (ltb (d .lines) mostLines) (after d (doesOf (d .lines + 1) (d .stage) (d .tables) (entryIn x) (countsIn x))) (stopped (d .lines + 1) d)) = rw (awaiting-on (d .stage) a) in
-    subst (Turns d) (sym s) (turn-by d (ltb (d .lines) mostLines) refl (doesOf (d .lines + 1) (d .stage) (d .tables) (entryIn x) (countsIn x)) (does-leads (d .lines + 1) (d .stage) (d .tables) (entryIn x) (countsIn x) a))
+    let s : stepOf d x ≡ finished (cond (ltb (d .lines) mostLines) (after d (doesOf (d .lines + 1) (d .stage) (d .tables) (entryIn x))) (stopped (d .lines + 1) d)) = rw (awaiting-on (d .stage) a) in
+    subst (Turns d) (sym s) (turn-by d (ltb (d .lines) mostLines) refl (doesOf (d .lines + 1) (d .stage) (d .tables) (entryIn x)) (does-leads (d .lines + 1) (d .stage) (d .tables) (entryIn x) a))
 
 -- ---- a file, by the lines that are left of it
 

@@ -22,15 +22,16 @@ use Rattle.answers.specs.declared.Judged.the-variants.{Fine}
 use Rattle.answers.proofs.Outcomes.{done-fine}
 use Rattle.opening.specs.Open.{openAct}
 use Rattle.opening.proofs.Judging.{Opens as OpenFine, open-fine}
-use Rattle.dayfile.specs.declared.Entry.{Entry}
-use Rattle.dayfile.specs.declared.Entry.the-variants as E
+use Rattle.dayfile.specs.Entries as E
 use Rattle.cut.specs.Lines.{Line}
 use Rattle.cut.specs.Chunks.{runOf}
 use Rattle.night.specs.declared.Stage.{Stage}
 use Rattle.night.specs.declared.Stage.the-variants as G
-use Rattle.night.specs.Lines.{Did, quiet, stops, houseDoes, given, openStage, balancesGiven, linesGiven, openDoes, givenDoes, memberDoes, dayDoes, doesOf}
+use Rattle.night.specs.Lines.{Did, quiet, stops, houseDoes, given, openStage, balancesGiven, linesGiven, openDoes, givenDoes, memberDoes, callDoes, dayDoes, doesOf}
 use Rattle.night.specs.Stands.{Sized, Giving}
-use Rattle.sheet.specs.Sheet.{mostLines, Night, told, isOver, entryIn, countsIn, after, stopped, stepOf, morning}
+use Rattle.dayfile.specs.Entries.{mostLines, DayLine, Entry}
+use Rattle.night.specs.Stages.{told, isOver}
+use Rattle.sheet.specs.Sheet.{Night, entryIn, after, stopped, stepOf, morning}
 use Rattle.days.specs.Days.{Begun}
 use Rattle.nights.specs.Files.{balanceOf, creditOf, balancesIn, creditsIn, membersOf, nightAfter, Opens, openedBy}
 use Rattle.nights.proofs.Runs.{run-join}
@@ -80,21 +81,17 @@ open-gave (opening.Done s) t b l = tt
 open-gave (opening.Refused r) t b l = tt
 
 house-gave : (n : ℕ) (t : Tables) (b l : List ℤ) → None t b l → (e : Entry) → Gave (told (houseDoes n t e .stage)) (houseDoes n t e .after) (b ++ balanceOf e) (l ++ creditOf e)
-house-gave n t b l g (E.House count) = go (leb 1 count && leb count members) refl
+house-gave n t b l g (E.opening (E.house count)) = go (leb 1 count && leb count members) refl
   where
     go : (p : Bool) → (leb 1 count && leb count members) ≡ p → Gave (told (cond p (quiet (G.Members count 0) t) (stops n R.Opening t) .stage)) (cond p (quiet (G.Members count 0) t) (stops n R.Opening t) .after) (b ++ []) (l ++ [])
     go true e =
         let q = and-both (leb 1 count) (leb count members) e in
         record { giving = record { few = leb-true count members (q .1); next = leb-true 1 count (q .0); sized = g .sized }; balances = sym (append-nil b ∙ g .balances); lines = sym (append-nil l ∙ g .lines) }
     go false e = tt
-house-gave n t b l g (E.Member m x y) = tt
-house-gave n t b l g (E.Pay m k q x) = tt
-house-gave n t b l g (E.Deposit m x) = tt
-house-gave n t b l g (E.Release m) = tt
-house-gave n t b l g (E.Group m) = tt
-house-gave n t b l g E.Resolve = tt
-house-gave n t b l g E.End = tt
-house-gave n t b l g E.Bad = tt
+house-gave n t b l g (E.opening (E.member m x y)) = tt
+house-gave n t b l g (E.day d) = tt
+house-gave n t b l g E.end = tt
+house-gave n t b l g E.bad = tt
 
 module _ (n count k : ℕ) (t : Tables) {b l : List ℤ} (g : Gives count k t b l) where
   given-gave : (x : ℤ) (y : ℕ) (p : Bool) → ltb (k + 1) count ≡ p
@@ -110,33 +107,31 @@ module _ (n count k : ℕ) (t : Tables) {b l : List ℤ} (g : Gives count k t b 
   member-by x y false = tt
 
   member-gave : (e : Entry) → Gave (told (memberDoes n count k t e .stage)) (memberDoes n count k t e .after) (b ++ balanceOf e) (l ++ creditOf e)
-  member-gave (E.House m) = tt
-  member-gave (E.Member m x y) = member-by x y (eqb m (k + 1))
-  member-gave (E.Pay m i q x) = tt
-  member-gave (E.Deposit m x) = tt
-  member-gave (E.Release m) = tt
-  member-gave (E.Group m) = tt
-  member-gave E.Resolve = tt
-  member-gave E.End = tt
-  member-gave E.Bad = tt
+  member-gave (E.opening (E.house m)) = tt
+  member-gave (E.opening (E.member m x y)) = member-by x y (eqb m (k + 1))
+  member-gave (E.day d) = tt
+  member-gave E.end = tt
+  member-gave E.bad = tt
 
-day-gave : (n : ℕ) (t : Tables) (e : Entry) (vs : List ℕ) (b l : List ℤ) → Gave (told (dayDoes n t e vs .stage)) (dayDoes n t e vs .after) b l
-day-gave n t (E.House m) vs b l = tt
-day-gave n t (E.Member m x y) vs b l = tt
-day-gave n t (E.Pay m k q x) vs b l = tt
-day-gave n t (E.Deposit m x) vs b l = tt
-day-gave n t (E.Release m) vs b l = tt
-day-gave n t (E.Group m) vs b l = tt
-day-gave n t E.Resolve vs b l = tt
-day-gave n t E.End vs b l = tt
-day-gave n t E.Bad vs b l = tt
+day-gave : (n : ℕ) (t : Tables) (e : Entry) (b l : List ℤ) → Gave (told (dayDoes n t e .stage)) (dayDoes n t e .after) b l
+day-gave n t (E.opening o) b l = tt
+day-gave n t (E.day d) b l = go d
+  where
+    go : (d : DayLine) → Gave (told (callDoes n t d .stage)) (callDoes n t d .after) b l
+    go (E.pay kind m k q x) = tt
+    go (E.deposit m x) = tt
+    go (E.release m) = tt
+    go (E.group k) = tt
+    go E.resolve = tt
+day-gave n t E.end b l = tt
+day-gave n t E.bad b l = tt
 
-does-gave : (n : ℕ) (s : Stage) (t : Tables) (e : Entry) (vs : List ℕ) (b l : List ℤ) → Gave s t b l → Gave (told (doesOf n s t e vs .stage)) (doesOf n s t e vs .after) (b ++ balanceOf e) (l ++ creditOf e)
-does-gave n G.House t e vs b l g = house-gave n t b l g e
-does-gave n (G.Members count k) t e vs b l g = member-gave n count k t g e
-does-gave n G.Day t e vs b l g = day-gave n t e vs (b ++ balanceOf e) (l ++ creditOf e)
-does-gave n (G.Ending k) t e vs b l g = tt
-does-gave n G.Over t e vs b l g = tt
+does-gave : (n : ℕ) (s : Stage) (t : Tables) (e : Entry) (b l : List ℤ) → Gave s t b l → Gave (told (doesOf n s t e .stage)) (doesOf n s t e .after) (b ++ balanceOf e) (l ++ creditOf e)
+does-gave n G.House t e b l g = house-gave n t b l g e
+does-gave n (G.Members count k) t e b l g = member-gave n count k t g e
+does-gave n G.Day t e b l g = day-gave n t e (b ++ balanceOf e) (l ++ creditOf e)
+does-gave n (G.Ending k) t e b l g = tt
+does-gave n G.Over t e b l g = tt
 
 over-gave : (s : Stage) → isOver s ≡ true → (t : Tables) (b l : List ℤ) → Gave (told s) t b l
 over-gave G.House e t b l = absurd (false≢true e)
@@ -149,11 +144,11 @@ step-gave : (d : Night) (x : Line) (b l : List ℤ) → Gave (d .stage) (d .tabl
 step-gave d x b l g = go (isOver (d .stage)) refl (ltb (d .lines) mostLines)
   where
     r : Did
-    r = doesOf (d .lines + 1) (d .stage) (d .tables) (entryIn x) (countsIn x)
+    r = doesOf (d .lines + 1) (d .stage) (d .tables) (entryIn x)
 
     go : (o : Bool) → isOver (d .stage) ≡ o → (p : Bool) → Gave (told (cond o d (cond p (after d r) (stopped (d .lines + 1) d)) .stage)) (cond o d (cond p (after d r) (stopped (d .lines + 1) d)) .tables) (b ++ balanceOf (entryIn x)) (l ++ creditOf (entryIn x))
     go true e p = over-gave (d .stage) e (d .tables) (b ++ balanceOf (entryIn x)) (l ++ creditOf (entryIn x))
-    go false e true = does-gave (d .lines + 1) (d .stage) (d .tables) (entryIn x) (countsIn x) b l g
+    go false e true = does-gave (d .lines + 1) (d .stage) (d .tables) (entryIn x) b l g
     go false e false = tt
 
 -- ---- the last line of the opening
@@ -194,15 +189,11 @@ module _ (n count k : ℕ) (t : Tables) {b l : List ℤ} (g : Gives count k t b 
   by-begun x y false q = let z : _≡_ {A = ℕ} 0 1 = cc in absurd (omega arith)
 
   member-begun : (e : Entry) → told (memberDoes n count k t e .stage) ≡ G.Day → Begun count (b ++ balanceOf e) (l ++ creditOf e) (memberDoes n count k t e .after)
-  member-begun (E.House m) q = let z : _≡_ {A = ℕ} 0 1 = cc in absurd (omega arith)
-  member-begun (E.Member m x y) q = by-begun x y (eqb m (k + 1)) q
-  member-begun (E.Pay m i p x) q = let z : _≡_ {A = ℕ} 0 1 = cc in absurd (omega arith)
-  member-begun (E.Deposit m x) q = let z : _≡_ {A = ℕ} 0 1 = cc in absurd (omega arith)
-  member-begun (E.Release m) q = let z : _≡_ {A = ℕ} 0 1 = cc in absurd (omega arith)
-  member-begun (E.Group m) q = let z : _≡_ {A = ℕ} 0 1 = cc in absurd (omega arith)
-  member-begun E.Resolve q = let z : _≡_ {A = ℕ} 0 1 = cc in absurd (omega arith)
-  member-begun E.End q = let z : _≡_ {A = ℕ} 0 1 = cc in absurd (omega arith)
-  member-begun E.Bad q = let z : _≡_ {A = ℕ} 0 1 = cc in absurd (omega arith)
+  member-begun (E.opening (E.house m)) q = let z : _≡_ {A = ℕ} 0 1 = cc in absurd (omega arith)
+  member-begun (E.opening (E.member m x y)) q = by-begun x y (eqb m (k + 1)) q
+  member-begun (E.day d) q = let z : _≡_ {A = ℕ} 0 1 = cc in absurd (omega arith)
+  member-begun E.end q = let z : _≡_ {A = ℕ} 0 1 = cc in absurd (omega arith)
+  member-begun E.bad q = let z : _≡_ {A = ℕ} 0 1 = cc in absurd (omega arith)
 
 -- the same night at a stage
 abbrev nightAt : Night → Stage → Night

@@ -14,7 +14,9 @@ use Rattle.cut.specs.Lines.{Line}
 use Rattle.cut.specs.Chunks.{runOf}
 use Rattle.night.specs.declared.Stage.the-variants as G
 use Rattle.night.specs.Lines.{Did, quiet, dayDoes, doesOf, endSays}
-use Rattle.sheet.specs.Sheet.{mostLines, Night, textsOf, told, isOver, finished, entryIn, countsIn, after, stopped, stepOf, closed}
+use Rattle.dayfile.specs.Entries.{mostLines}
+use Rattle.night.specs.Stages.{told, isOver}
+use Rattle.sheet.specs.Sheet.{Night, textsOf, finished, entryIn, after, stopped, stepOf, closed}
 use Rattle.sheet.proofs.Futures.{quiet-same}
 use Rattle.sheet.proofs.Over.{over-quiet}
 use Rattle.days.specs.Days.{Request, afterAll}
@@ -32,7 +34,7 @@ run-join d (l ∷ ls) ms = run-join (stepOf d l) ls ms
 
 -- no line counts for more than one
 step-few : (d : Night) (l : Line) → stepOf d l .lines ≤ d .lines + 1
-step-few d l = go (isOver (d .stage)) (ltb (d .lines) mostLines) (doesOf (d .lines + 1) (d .stage) (d .tables) (entryIn l) (countsIn l))
+step-few d l = go (isOver (d .stage)) (ltb (d .lines) mostLines) (doesOf (d .lines + 1) (d .stage) (d .tables) (entryIn l))
   where
     go : (o b : Bool) (r : Did) → cond o d (cond b (after d r) (stopped (d .lines + 1) d)) .lines ≤ d .lines + 1
     go true b r = omega arith
@@ -61,21 +63,21 @@ pub record Gone (d : Night) (qs : List Request) (k : ℕ) (e : Night) : Type 0 w
   pub after : e .tables ≡ afterAll qs (d .tables)
 
 module _ (d : Night) (l : Line) (day : d .stage ≡ G.Day) (few : d .lines < mostLines) where
-  step-day : stepOf d l ≡ finished (after d (dayDoes (d .lines + 1) (d .tables) (entryIn l) (countsIn l)))
+  step-day : stepOf d l ≡ finished (after d (dayDoes (d .lines + 1) (d .tables) (entryIn l)))
   step-day = rw (day, lt-ltb (d .lines) mostLines few)
 
-  pub line-gone : {n : ℕ} → Holds (d .tables) → membersIn (d .tables) ≡ n → isEnd (entryIn l) ≡ false → Gone d (requestsOf n (entryIn l) (countsIn l)) 1 (stepOf d l)
+  pub line-gone : {n : ℕ} → Holds (d .tables) → membersIn (d .tables) ≡ n → isEnd (entryIn l) ≡ false → Gone d (requestsOf n (entryIn l)) 1 (stepOf d l)
   line-gone {n} h q e = record {
-    stage = ap (λ (x : Night). x .stage) step-day ∙ ap told (day-stays (d .lines + 1) (d .tables) (entryIn l) (countsIn l) e);
+    stage = ap (λ (x : Night). x .stage) step-day ∙ ap told (day-stays (d .lines + 1) (d .tables) (entryIn l) e);
     lines = ap (λ (x : Night). x .lines) step-day;
-    after = ap (λ (x : Night). x .tables) step-day ∙ line-calls h q (d .lines + 1) (entryIn l) (countsIn l);
+    after = ap (λ (x : Night). x .tables) step-day ∙ line-calls h q (d .lines + 1) (entryIn l);
   }
 
   -- at `end` it is over once the closing lines are said, and no later line is read
   end-run : (ls : List Line) → isEnd (entryIn l) ≡ true → runOf stepOf d (l ∷ ls) ≡ finished (after d (quiet (G.Ending 0) (d .tables)))
   unfolding runOf
   end-run ls e =
-      let q : stepOf d l ≡ finished (after d (quiet (G.Ending 0) (d .tables))) = step-day ∙ ap (λ (r : Did). finished (after d r)) (end-does (d .lines + 1) (d .tables) (entryIn l) (countsIn l) e) in
+      let q : stepOf d l ≡ finished (after d (quiet (G.Ending 0) (d .tables))) = step-day ∙ ap (λ (r : Did). finished (after d r)) (end-does (d .lines + 1) (d .tables) (entryIn l) e) in
       ap (λ (x : Night). runOf stepOf x ls) q ∙ over-run (finished (after d (quiet (G.Ending 0) (d .tables)))) ls refl
 
   pub end-tables : (ls : List Line) → isEnd (entryIn l) ≡ true → runOf stepOf d (l ∷ ls) .tables ≡ d .tables
@@ -90,7 +92,7 @@ pub lines-gone : {n : ℕ} (d : Night) (ls : List Line) → d .stage ≡ G.Day �
 unfolding runOf
 lines-gone d [] day h q on few = record { stage = day; lines = omega arith; after = refl }
 lines-gone {n} d (l ∷ ls) day h q on few =
-    let qs = requestsOf n (entryIn l) (countsIn l) in
+    let qs = requestsOf n (entryIn l) in
     let g = line-gone d l day (omega arith) h q (on .0) in
     let c = chain-carries h qs (line-inside n (entryIn l) (countsIn l) (d .tables)) in
     let k = lines-gone {n = n} (stepOf d l) ls (g .stage) (subst Holds (sym (g .after)) (c .stands)) (ap membersIn (g .after) ∙ c .members ∙ q) (on .1) (omega (arith, g .lines)) in

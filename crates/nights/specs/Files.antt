@@ -4,21 +4,21 @@ use mathlib.Core.Bool.{Bool, true, false}
 use mathlib.Core.List.{List, [], _∷_, _++_}
 use Prim.Native.Nat.{ℕ, _+_, _<_}
 use lib.IntN.{ℤ, pos}
-use lib.ListN.{length, take, replicate}
+use lib.ListN.{length, replicate}
 use Rattle.rule.specs.Lists.{listing, Each}
 use Rattle.rule.specs.House.{House, waits, money}
 use Rattle.print.specs.declared.Says.the-variants as S
 use Rattle.rule.specs.Day.{Call}
 use Rattle.tables.specs.Layout.{Tables}
-use Rattle.dayfile.specs.declared.Entry.{Entry}
-use Rattle.dayfile.specs.declared.Entry.the-variants as E
+use Rattle.dayfile.specs.Entries as E
 use Rattle.answers.specs.declared.Refusal.{Refusal}
 use Rattle.print.specs.Lines.{textOf}
 use Rattle.cut.specs.Lines.{Line, linesOf}
 use Rattle.cut.specs.Chunks.{runOf}
 use Rattle.night.specs.declared.Stage.the-variants as G
 use Rattle.night.specs.Lines.{refusal, endSays}
-use Rattle.sheet.specs.Sheet.{mostLines, Night, textsOf, entryIn, countsIn, stepOf, morning, sheetOf}
+use Rattle.dayfile.specs.Entries.{mostLines, DayLine, Entry}
+use Rattle.sheet.specs.Sheet.{Night, textsOf, entryIn, stepOf, morning, sheetOf}
 use Rattle.days.specs.Days.{Request, deposits, submits, releases, groups, resolves, afterAll, made}
 
 -- ---- the requests of a day
@@ -27,35 +27,33 @@ use Rattle.days.specs.Days.{Request, deposits, submits, releases, groups, resol
 abbrev pub resolution : ℕ → Request
 resolution n = resolves (replicate n 0)
 
--- what a line of the day requests in a house of n members; vs are the numbers that it left, of which a group's are its counts
-abbrev pub requestsOf : ℕ → Entry → List ℕ → List Request
-requestsOf n (E.House m) vs = []
-requestsOf n (E.Member m b l) vs = []
-requestsOf n (E.Pay m k q x) vs = submits m k q x ∷ []
-requestsOf n (E.Deposit m x) vs = deposits m x ∷ []
-requestsOf n (E.Release m) vs = releases m ∷ []
-requestsOf n (E.Group m) vs = groups (take m vs) ∷ []
-requestsOf n E.Resolve vs = resolution n ∷ []
-requestsOf n E.End vs = []
-requestsOf n E.Bad vs = []
+-- what a line of the day requests in a house of n members
+abbrev pub requestOf : ℕ → DayLine → Request
+requestOf n (E.pay kind m k q x) = submits m k q x
+requestOf n (E.deposit m x) = deposits m x
+requestOf n (E.release m) = releases m
+requestOf n (E.group k) = groups k
+requestOf n E.resolve = resolution n
+
+-- what any line requests there
+abbrev pub requestsOf : ℕ → Entry → List Request
+requestsOf n (E.opening o) = []
+requestsOf n (E.day d) = requestOf n d ∷ []
+requestsOf n E.end = []
+requestsOf n E.bad = []
 
 -- the requests of some lines, one after the other
 abbrev pub requestsIn : ℕ → List Line → List Request
 requestsIn n [] = []
-requestsIn n (l ∷ ls) = requestsOf n (entryIn l) (countsIn l) ++ requestsIn n ls
+requestsIn n (l ∷ ls) = requestsOf n (entryIn l) ++ requestsIn n ls
 
 -- ---- files
 
 abbrev pub isEnd : Entry → Bool
-isEnd (E.House m) = false
-isEnd (E.Member m b l) = false
-isEnd (E.Pay m k q x) = false
-isEnd (E.Deposit m x) = false
-isEnd (E.Release m) = false
-isEnd (E.Group m) = false
-isEnd E.Resolve = false
-isEnd E.End = true
-isEnd E.Bad = false
+isEnd (E.opening o) = false
+isEnd (E.day d) = false
+isEnd E.end = true
+isEnd E.bad = false
 
 -- the night after these lines of a file
 abbrev pub nightAfter : List Line → Night
@@ -73,26 +71,18 @@ pub record Opens (ls : List Line) : Type 0 where
 
 -- the balance and the line that a member line gives
 abbrev pub balanceOf : Entry → List ℤ
-balanceOf (E.House m) = []
-balanceOf (E.Member m b l) = b ∷ []
-balanceOf (E.Pay m k q x) = []
-balanceOf (E.Deposit m x) = []
-balanceOf (E.Release m) = []
-balanceOf (E.Group m) = []
-balanceOf E.Resolve = []
-balanceOf E.End = []
-balanceOf E.Bad = []
+balanceOf (E.opening (E.house m)) = []
+balanceOf (E.opening (E.member m b l)) = b ∷ []
+balanceOf (E.day d) = []
+balanceOf E.end = []
+balanceOf E.bad = []
 
 abbrev pub creditOf : Entry → List ℤ
-creditOf (E.House m) = []
-creditOf (E.Member m b l) = pos l ∷ []
-creditOf (E.Pay m k q x) = []
-creditOf (E.Deposit m x) = []
-creditOf (E.Release m) = []
-creditOf (E.Group m) = []
-creditOf E.Resolve = []
-creditOf E.End = []
-creditOf E.Bad = []
+creditOf (E.opening (E.house m)) = []
+creditOf (E.opening (E.member m b l)) = pos l ∷ []
+creditOf (E.day d) = []
+creditOf E.end = []
+creditOf E.bad = []
 
 -- the balances and the lines that some lines give, in order
 abbrev pub balancesIn : List Line → List ℤ

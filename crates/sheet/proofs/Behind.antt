@@ -8,7 +8,9 @@ use Rattle.cut.specs.Lines.{Line}
 use Rattle.cut.specs.Chunks.{lineOf, Fed, feedOf, endBy, finish}
 use Rattle.cut.proofs.Chunks.{feed-under}
 use Rattle.night.specs.Lines.{doesOf}
-use Rattle.sheet.specs.Sheet.{mostLines, Night, finished, isOver, entryIn, countsIn, after, stopped, stepOf, closed}
+use Rattle.dayfile.specs.Entries.{mostLines}
+use Rattle.night.specs.Stages.{isOver}
+use Rattle.sheet.specs.Sheet.{Night, finished, entryIn, after, stopped, stepOf, closed}
 
 abbrev pub behind : List ℕ → Night → Night
 behind p d = record { lines = d .lines; stage = d .stage; tables = d .tables; sheet = p ++ d .sheet }
@@ -17,8 +19,8 @@ step-behind : (p : List ℕ) (d : Night) (l : Line) → stepOf (behind p d) l �
 step-behind p d l = go (isOver (d .stage)) (ltb (d .lines) mostLines)
   where
     go : (o m : Bool)
-        → finished (cond o (behind p d) (cond m (after (behind p d) (doesOf (d .lines + 1) (d .stage) (d .tables) (entryIn l) (countsIn l))) (stopped (d .lines + 1) (behind p d))))
-        ≡ behind p (finished (cond o d (cond m (after d (doesOf (d .lines + 1) (d .stage) (d .tables) (entryIn l) (countsIn l))) (stopped (d .lines + 1) d))))
+        → finished (cond o (behind p d) (cond m (after (behind p d) (doesOf (d .lines + 1) (d .stage) (d .tables) (entryIn l))) (stopped (d .lines + 1) (behind p d))))
+        ≡ behind p (finished (cond o d (cond m (after d (doesOf (d .lines + 1) (d .stage) (d .tables) (entryIn l))) (stopped (d .lines + 1) d))))
     go true m = simp append-assoc
     go false true = simp append-assoc
     go false false = simp append-assoc

@@ -8,6 +8,7 @@ use borrow.Author.Tests.{ltb-true, ltb-false, lt-ltb, le-ltb, leb-true, not-true
 use lib.Dec.{ltb}
 use lib.ListN.{length, take, drop, length-drop}
 use lib.Seq.{drop-drop, length-take-le}
+use Rattle.dayfile.specs.Entries.{mostCounts}
 use Rattle.cut.specs.Lines.{mostBytes}
 use Rattle.cut.specs.Chunks.{Held, none, lineOf, stateOf, eatOf}
 use Rattle.cut.proofs.Chunks.{eats}
@@ -18,10 +19,11 @@ use Rattle.night.specs.declared.Stage.the-variants as G
 use Rattle.tables.specs.Layout.{Tables}
 use Rattle.sheet.specs.declared.State.{State}
 use Rattle.sheet.specs.declared.Turn.{Turn}
-use Rattle.sheet.specs.Sheet.{Night, isEnding, isOver, stopped, answered}
+use Rattle.night.specs.Stages.{isEnding, isOver}
+use Rattle.sheet.specs.Sheet.{Night, stopped, answered}
 use Rattle.sheet.specs.Stops.{Runs}
 use Rattle.sheet.specs.Turns.{Desk, endSaid, eatTurn, turnOf, lastOf, closeTurn, isOn, goesOn, closesOn}
-use Rattle.sheet.specs.Feeding.{nightOf, deskOf, fresh, goesAt, closesAt, turnsLeft, Grown, Fit}
+use Rattle.sheet.specs.Feeding.{nightOf, deskOf, fresh, goesAt, closesAt, mostEnding, turnsLeft, Grown, Fit}
 use Rattle.sheet.proofs.Stopping.{runs-none, runs-next}
 use Rattle.sheet.proofs.Writing.{grown-none, grown-more}
 
@@ -115,14 +117,14 @@ some-left at n = go (ltb at n) refl
 
 -- ---- turns come to an end
 
-left-at : (g : Stage) (n : ℕ) → isOver g ≡ false → isEnding g ≡ false → turnsLeft g n ≡ 100 + n
+left-at : (g : Stage) (n : ℕ) → isOver g ≡ false → isEnding g ≡ false → turnsLeft g n ≡ mostEnding + 2 + n
 left-at G.House n o e = refl
 left-at (G.Members count k) n o e = refl
 left-at G.Day n o e = refl
 left-at (G.Ending k) n o e = absurd (false≢true (sym e))
 left-at G.Over n o e = absurd (false≢true (sym o))
 
-left-most : (g : Stage) (n : ℕ) → turnsLeft g n ≤ 100 + n
+left-most : (g : Stage) (n : ℕ) → turnsLeft g n ≤ mostEnding + 2 + n
 left-most G.House n = omega arith
 left-most (G.Members count k) n = omega arith
 left-most G.Day n = omega arith
@@ -147,14 +149,14 @@ fit-at n e f = record { few = f .few; room = omega (arith, f .room); held = f .h
 pub record Going (turn : Desk → Desk) (goes : Desk → Bool) (d : Desk) (used : ℕ) (out₀ rest buf counts out : List ℕ) (t : Tables) (s : State) : Type 0 where
   pub fit : Fit s t (length out₀)
   pub line : length buf ≡ mostBytes
-  pub slots : length counts ≡ 64
+  pub slots : length counts ≡ mostCounts
   pub long : length out ≡ length out₀
   pub grown : Grown used (s .used) out₀ out
   pub run : Runs turn goes d (deskOf rest s t out buf)
 
 module _ {turn : Desk → Desk} {goes : Desk → Bool} where
   -- at first,
-  pub going-first : {s : State} {t : Tables} {counts buf : List ℕ} (rest out : List ℕ) → Fit s t (length out) → length buf ≡ mostBytes → length counts ≡ 64
+  pub going-first : {s : State} {t : Tables} {counts buf : List ℕ} (rest out : List ℕ) → Fit s t (length out) → length buf ≡ mostBytes → length counts ≡ mostCounts
       → Going turn goes (deskOf rest s t out buf) (s .used) out rest buf counts out t s
   going-first {s} {t} {counts} {buf} rest out f l k =
       record { fit = f; line = l; slots = k; long = refl; grown = grown-none (s .used) out; run = runs-none (deskOf rest s t out buf) }

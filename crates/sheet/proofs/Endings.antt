@@ -10,6 +10,7 @@ use lib.ListN.{length, take, drop, List·getD-append, length-append}
 use lib.Seq.{drop-cons, drop-at}
 use Rattle.rule.specs.Lists.{listing}
 use Rattle.rule.proofs.Lists.{length-listing, getD-listing}
+use Rattle.tables.specs.Sizes.{members}
 use Rattle.tables.specs.Layout.{countOf, moneyOf, Tables}
 use Rattle.print.specs.declared.Says.{Says}
 use Rattle.print.specs.declared.Says.the-variants as S
@@ -19,13 +20,9 @@ use Rattle.night.specs.declared.Stage.the-variants as G
 use Rattle.night.specs.Lines.{balanceSays, endSays, endAt, endNext}
 use Rattle.night.specs.Stands.{Telling, Stands}
 use Rattle.sheet.specs.declared.State.{State}
-use Rattle.sheet.specs.Sheet.{textsOf, isEnding}
+use Rattle.sheet.specs.Sheet.{textsOf}
 use Rattle.sheet.specs.Turns.{endSaid}
 use Rattle.sheet.specs.Feeding.{nightOf, turnsLeft, Fit}
-
--- the same stage has lines to say
-pub not-ending : {g k : Stage} → isEnding g ≡ true → g ≡ k → isEnding k ≡ true
-not-ending e q = rw q at e
 
 -- behind k lines comes line k
 text-next : (t : Tables) (k : ℕ) → k ≤ countOf (t .counters) → textsOf (take 1 (drop k (endSays t))) ≡ textOf (endAt t k)
@@ -63,7 +60,7 @@ module _ (s : State) (t : Tables) (k : ℕ) (q : s .stage ≡ G.Ending k) where
   pub end-fewer : Telling k t → (r : State) → r .stage ≡ endNext (t .counters) k → (n : ℕ) → turnsLeft (r .stage) n < turnsLeft (s .stage) n
   end-fewer h r e n = rw (e, q) (go (ltb k (countOf (t .counters))))
     where
-      few : k ≤ 64
+      few : k ≤ members
       few = omega (arith, h .told, h .holds .counters .few)
 
       go : (b : Bool) → turnsLeft (cond b (G.Ending (k + 1)) G.Over) n < turnsLeft (G.Ending k) n

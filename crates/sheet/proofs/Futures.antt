@@ -17,8 +17,9 @@ use Rattle.print.specs.declared.Says.{Says}
 use Rattle.night.specs.declared.Stage.{Stage}
 use Rattle.night.specs.declared.Stage.the-variants as G
 use Rattle.night.specs.Lines.{balanceSays, endSays}
-use Rattle.sheet.specs.Sheet.{Night, textsOf, restSays, told, finished, isEnding, isOver, stopped, answered, stepOf, closed}
-use Rattle.sheet.specs.Turns.{Desk, nextStage, endSaid, endTurn, eatenTo, eatTurn, turnOf, lastOf, lastTurn, closeTurn, comesTo, closesTo}
+use Rattle.night.specs.Stages.{isEnding, isOver, restSays, nextStage, told}
+use Rattle.sheet.specs.Sheet.{Night, textsOf, finished, stopped, answered, stepOf, closed}
+use Rattle.sheet.specs.Turns.{Desk, endSaid, endTurn, eatenTo, eatTurn, turnOf, lastOf, lastTurn, closeTurn, comesTo, closesTo}
 
 -- ---- a night that is not at its end has nothing to say
 

@@ -8,7 +8,8 @@ use Rattle.cut.specs.Lines.{Line}
 use Rattle.cut.specs.Chunks.{none, pushed, lineOf, Fed, byteOf, feedOf, endBy, finish}
 use Rattle.night.specs.declared.Stage.{Stage}
 use Rattle.night.specs.declared.Stage.the-variants as G
-use Rattle.sheet.specs.Sheet.{Night, isEnding, isOver, stopped, stepOf, closed}
+use Rattle.night.specs.Stages.{isEnding, isOver}
+use Rattle.sheet.specs.Sheet.{Night, stopped, stepOf, closed}
 use Rattle.sheet.proofs.Futures.{quiet-same}
 
 pub over-quiet : (g : Stage) → isOver g ≡ true → isEnding g ≡ false

@@ -18,7 +18,8 @@ use Rattle.night.specs.declared.Stage.{Stage}
 use Rattle.night.specs.declared.Stage.the-variants as G
 use Rattle.tables.specs.Layout.{Tables}
 use Rattle.sheet.specs.declared.State.{State}
-use Rattle.sheet.specs.Sheet.{Night, finished, isEnding, isOver, stepOf, morning, closed, sheetOf}
+use Rattle.night.specs.Stages.{isEnding, isOver}
+use Rattle.sheet.specs.Sheet.{Night, finished, stepOf, morning, closed, sheetOf}
 use Rattle.sheet.specs.Stops.{Stops}
 use Rattle.sheet.specs.Turns.{Desk, endTurn, turnOf, lastTurn, closeTurn, isOn, goesOn, closesOn, fedOf, comesTo, closesTo}
 use Rattle.sheet.specs.Feeding.{deskOf, dawn}

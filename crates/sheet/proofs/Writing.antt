@@ -1,5 +1,4 @@
--- A line that is written where 80 bytes are left stands behind what was used, and the output behind it is as it was; and what a line says
--- that was read.
+-- A line that is written where 80 bytes are left stands behind what was used, and the output behind it is as it was.
 use mathlib.Core.Path.{_≡_, refl, sym, ap, _∙_, subst}
 use mathlib.Core.Bool.{Bool, true, false}
 use mathlib.Core.List.{List, _++_}
@@ -14,14 +13,10 @@ use Rattle.print.specs.declared.Says.{Says}
 use Rattle.print.specs.Lines.{textOf}
 use Rattle.print.specs.Room.{leastRoom, putOf, afterPut, Ranges}
 use Rattle.print.proofs.Room.{put-refused, put-wrote, wrote-within, wrote-after, wrote-used}
-use Rattle.dayfile.specs.Entries.{countsOf, smallEntry}
-use Rattle.dayfile.specs.declared.Entry.{Entry}
-use Rattle.dayfile.proofs.Entries.{entry-small, counts-small}
-use Rattle.cut.specs.Lines.{Line, text, long}
 use Rattle.night.specs.declared.Said.{Said}
 use Rattle.night.specs.declared.Said.the-variants as D
+use Rattle.night.specs.Lines.{saidIn}
 use Rattle.night.specs.Stands.{SaidRanges}
-use Rattle.sheet.specs.Sheet.{entryIn, countsIn}
 use Rattle.sheet.specs.Feeding.{Grown}
 
 sets-behind : (out : List ℕ) (at : ℕ) (v : List ℕ) → at + length v ≤ length out → drop (at + length v) (sets out at v) ≡ drop (at + length v) out
@@ -53,22 +48,6 @@ grown-more {u} {v} {w} {out} {out₁} a b =
     let e : v + (w - v) ≡ w = omega (arith, b .on) in
     record { on = omega (arith, a .on, b .on); rest = b .rest ∙ subst (λ (k : ℕ). drop k out₁ ≡ drop k out) e (sym (drop-drop (w - v) v out₁) ∙ ap (drop (w - v)) (a .rest) ∙ drop-drop (w - v) v out) }
 
--- what is said is in its ranges
-pub said-ranges : (g : Said) (s : Says) → g ≡ D.One s → SaidRanges g → Ranges s
-said-ranges g s e r = subst SaidRanges e r
-
--- ---- the line that was read
-
--- a group's counts stand at the beginning of the lent list,
-pub counts-left : (s v w : List ℕ) → length v ≡ 64 → w ≡ sets v 0 (countsOf s) → take (length (countsOf s)) w ≡ countsOf s
-counts-left s v w l q =
-    let n : 0 + length (countsOf s) ≤ length v = omega (arith, counts-small s .1) in
-    rw (q, sets-eq (countsOf s) v 0 n) (take-at (countsOf s) (drop (0 + length (countsOf s)) v) (length (countsOf s)) refl)
-
-line-small : (l : Line) → smallEntry (countsIn l) (entryIn l)
-line-small (text s) = entry-small s
-line-small long = tt
-
--- and what was read is small enough for the night
-pub read-small : (l : Line) {e : Entry} → e ≡ entryIn l → smallEntry (countsIn l) e
-read-small l q = rw q (line-small l)
+-- a line that is said is in its ranges
+pub said-ranges : (g : Said) (s : Says) → g ≡ D.One s → SaidRanges (saidIn g) → Ranges s
+said-ranges g s e r = subst (λ (x : Said). SaidRanges (saidIn x)) e r .0

@@ -11,11 +11,14 @@ use Rattle.cut.specs.declared.Cut.{Cut}
 use Rattle.cut.specs.Chunks.{stateOf}
 use Rattle.night.specs.declared.Stage.{Stage}
 use Rattle.night.specs.declared.Stage.the-variants as G
+use Rattle.tables.specs.Sizes.{members}
 use Rattle.tables.specs.Layout.{Tables}
+use Rattle.dayfile.specs.Entries.{mostLines}
+use Rattle.night.specs.Stages.{isOver}
 use Rattle.night.specs.Stands.{Stands}
 use Rattle.sheet.specs.declared.State.{State}
 use Rattle.sheet.specs.declared.Turn.{Turn}
-use Rattle.sheet.specs.Sheet.{mostLines, Night, isOver}
+use Rattle.sheet.specs.Sheet.{Night}
 use Rattle.sheet.specs.Turns.{Desk, isOn}
 
 -- the night that a state, the tables and the lent output hold
@@ -46,12 +49,16 @@ goesAt n room t = hasRoom room (t .state .used) && isOn (t .state .stage) (ltb (
 abbrev pub closesAt : ℕ → State → Bool
 closesAt room s = hasRoom room (s .used) && not (isOver (s .stage))
 
--- at most how many turns are left, where there are n bytes: the end has at most 65 lines
+-- at most how many lines the end has: one for each member, and one for the money
+abbrev pub mostEnding : ℕ
+mostEnding = members + 1
+
+-- at most how many turns are left, where there are n bytes
 abbrev pub turnsLeft : Stage → ℕ → ℕ
-turnsLeft G.House n = 100 + n
-turnsLeft (G.Members count k) n = 100 + n
-turnsLeft G.Day n = 100 + n
-turnsLeft (G.Ending k) n = 66 - k
+turnsLeft G.House n = mostEnding + 2 + n
+turnsLeft (G.Members count k) n = mostEnding + 2 + n
+turnsLeft G.Day n = mostEnding + 2 + n
+turnsLeft (G.Ending k) n = mostEnding + 1 - k
 turnsLeft G.Over n = 0
 
 -- bytes were written behind the first u of the output, up to v, and none behind those

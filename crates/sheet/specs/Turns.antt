@@ -8,10 +8,8 @@ use lib.ListN.{length, take, drop}
 use Rattle.cut.specs.Chunks.{Held, none, lineOf, Eaten, eatOf, Fed, feedOf, finish}
 use Rattle.print.specs.Room.{hasRoom}
 use Rattle.night.specs.declared.Stage.{Stage}
-use Rattle.night.specs.declared.Stage.the-variants as G
-use Rattle.tables.specs.Layout.{Tables}
-use Rattle.night.specs.Lines.{endNext}
-use Rattle.sheet.specs.Sheet.{Night, textsOf, restSays, finished, isEnding, isOver, stopped, answered, stepOf, closed}
+use Rattle.night.specs.Stages.{isEnding, isOver, restSays, nextStage}
+use Rattle.sheet.specs.Sheet.{Night, textsOf, finished, stopped, answered, stepOf, closed}
 
 -- between two turns: bytes to come, the night of which the end may have lines to say, and what is held of the next line
 pub record Desk : Type 0 where
@@ -20,14 +18,6 @@ pub record Desk : Type 0 where
   pub held : Held
 
 -- ---- one turn
-
--- the stage behind the next line of the end
-abbrev pub nextStage : Stage → Tables → Stage
-nextStage G.House t = G.House
-nextStage (G.Members count k) t = G.Members count k
-nextStage G.Day t = G.Day
-nextStage (G.Ending k) t = endNext (t .counters) k
-nextStage G.Over t = G.Over
 
 -- the next line of the end is said
 abbrev pub endSaid : Night → Night

@@ -1,15 +1,13 @@
 // The lines of the end, one at a time.
 use crate::State;
 use crate::out::put;
-use night::Stage;
 ghost use mathlib.Core.Path.{_≡_};
 ghost use mathlib.Core.Bool.{true};
 ghost use Prim.Native.Nat.{ℕ, _+_, _≤_, _<_};
 ghost use lib.ListN.{length};
 ghost use Rattle.print.specs.Room.{leastRoom};
-ghost use Rattle.night.specs.declared.Stage.the-variants.{Ending};
 ghost use Rattle.tables.specs.Layout.{tables};
-ghost use Rattle.sheet.specs.Sheet.{isEnding};
+ghost use Rattle.night.specs.Stages.{isEnding};
 ghost use Rattle.sheet.specs.Turns.{endSaid};
 ghost use Rattle.sheet.specs.Feeding.{nightOf, turnsLeft, Grown, Fit};
 
@@ -20,7 +18,7 @@ pub fn end_on(accounts: &[i64], counters: &[u32], pays: &[u64], out: &mut [u8], 
     ensures { λ r. ⌜ Fit r (tables (now (accounts .entry)) (now (counters .entry)) (now (pays .entry))) (length (now (out .entry))) × (r .cut ≡ s .cut) × ((n : ℕ) → turnsLeft (r .stage) n < turnsLeft (s .stage) n) × Grown (s .used) (r .used) (now (out .entry)) (now (out .exit)) ⌝ }
 {
     let stage = s.stage;
-    let k = ending_at(stage);
+    let k = night::ending_at(stage);
     let l = night::end_line(accounts, counters, pays, k);
     let used = put(out, s.used, l);
     let next = night::end_next(counters, k);
@@ -30,32 +28,5 @@ pub fn end_on(accounts: &[i64], counters: &[u32], pays: &[u64], out: &mut [u8], 
         stage: next,
         used,
         cut,
-    }
-}
-
-// How many lines of the end were said.
-fn ending_at(stage: Stage) -> u64
-    requires { ⌜ isEnding stage ≡ true ⌝ }
-    ensures { λ r. ⌜ stage ≡ Ending r ⌝ }
-{
-    match stage {
-        Stage::Ending(k) => k,
-        Stage::House => 0,
-        Stage::Members(_, _) => 0,
-        Stage::Day => 0,
-        Stage::Over => 0,
-    }
-}
-
-// Lines of the end are still to be said.
-pub fn is_ending(stage: Stage) -> bool
-    ensures { λ r. ⌜ r ≡ isEnding stage ⌝ }
-{
-    match stage {
-        Stage::House => false,
-        Stage::Members(_, _) => false,
-        Stage::Day => false,
-        Stage::Ending(_) => true,
-        Stage::Over => false,
     }
 }

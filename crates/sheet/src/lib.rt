@@ -6,13 +6,14 @@ mod turns;
 
 use cut::Cut;
 use night::Stage;
+pub use night::is_over;
 ghost use mathlib.Core.Path.{_≡_};
 ghost use mathlib.Core.List.{[]};
 ghost use Prim.Native.Nat.{_≤_};
 ghost use lib.ListN.{length, drop};
+ghost use Rattle.dayfile.specs.Entries.{mostCounts};
 ghost use Rattle.cut.specs.Lines.{mostBytes};
 ghost use Rattle.tables.specs.Layout.{tables};
-ghost use Rattle.sheet.specs.Sheet.{isOver};
 ghost use Rattle.sheet.specs.Stops.{Stops};
 ghost use Rattle.sheet.specs.Turns.{turnOf, goesOn, closeTurn, closesOn};
 ghost use Rattle.sheet.specs.Feeding.{deskOf, stateAt, dawn, Grown, Fit};
@@ -51,7 +52,7 @@ pub fn feed(
     s: State,
 ) -> Turn
     requires { ⌜ Fit s (tables (now accounts) (now counters) (now pays)) (length (now out)) ⌝ }
-    requires { ⌜ (length (now counts) ≡ 64) × (length (now buf) ≡ mostBytes) × (from ≤ length (now chunk)) ⌝ }
+    requires { ⌜ (length (now counts) ≡ mostCounts) × (length (now buf) ≡ mostBytes) × (from ≤ length (now chunk)) ⌝ }
     ensures { λ r. ⌜ Stops turnOf (goesOn (length (now (out .entry)))) (deskOf (drop from (now (chunk .entry))) s (tables (now (accounts .entry)) (now (counters .entry)) (now (pays .entry))) (now (out .entry)) (now (buf .entry))) (deskOf (drop (r .at) (now (chunk .entry))) (r .state) (tables (now (accounts .exit)) (now (counters .exit)) (now (pays .exit))) (now (out .exit)) (now (buf .exit))) ⌝ }
     ensures { λ r. ⌜ Fit (r .state) (tables (now (accounts .exit)) (now (counters .exit)) (now (pays .exit))) (length (now (out .entry))) × (r .at ≤ length (now (chunk .entry))) × Grown (s .used) (r .state .used) (now (out .entry)) (now (out .exit)) ⌝ }
 {
@@ -89,7 +90,7 @@ pub fn close(
     out: &mut [u8],
     s: State,
 ) -> State
-    requires { ⌜ Fit s (tables (now accounts) (now counters) (now pays)) (length (now out)) × (length (now counts) ≡ 64) × (length (now buf) ≡ mostBytes) ⌝ }
+    requires { ⌜ Fit s (tables (now accounts) (now counters) (now pays)) (length (now out)) × (length (now counts) ≡ mostCounts) × (length (now buf) ≡ mostBytes) ⌝ }
     ensures { λ r. ⌜ Stops closeTurn (closesOn (length (now (out .entry)))) (deskOf [] s (tables (now (accounts .entry)) (now (counters .entry)) (now (pays .entry))) (now (out .entry)) (now (buf .entry))) (deskOf [] r (tables (now (accounts .exit)) (now (counters .exit)) (now (pays .exit))) (now (out .exit)) (now (buf .entry))) ⌝ }
     ensures { λ r. ⌜ Fit r (tables (now (accounts .exit)) (now (counters .exit)) (now (pays .exit))) (length (now (out .entry))) × Grown (s .used) (r .used) (now (out .entry)) (now (out .exit)) ⌝ }
 {
@@ -98,19 +99,6 @@ pub fn close(
         t = turns::close_on(buf, counts, accounts, counters, pays, out, t);
     }
     t
-}
-
-// The night is over.
-pub fn is_over(stage: Stage) -> bool
-    ensures { λ r. ⌜ r ≡ isOver stage ⌝ }
-{
-    match stage {
-        Stage::House => false,
-        Stage::Members(_, _) => false,
-        Stage::Day => false,
-        Stage::Ending(_) => false,
-        Stage::Over => true,
-    }
 }
 
 // A state with no line begun.

@@ -20,12 +20,11 @@ ghost use Rattle.print.specs.Room.{leastRoom};
 ghost use Rattle.night.specs.declared.Stage.the-variants.{Over};
 ghost use Rattle.tables.specs.Layout.{tables};
 ghost use Rattle.night.specs.Lines.{refusal, doesOf};
-ghost use Rattle.night.specs.Stands.{Read};
-ghost use Rattle.sheet.specs.Sheet.{mostLines, isOver, entryIn, countsIn, after, answered};
+ghost use Rattle.dayfile.specs.Entries.{mostLines, mostCounts};
+ghost use Rattle.dayfile.specs.Reading.{meant, Tells, Read};
+ghost use Rattle.night.specs.Stages.{isOver};
+ghost use Rattle.sheet.specs.Sheet.{entryIn, after, answered};
 ghost use Rattle.sheet.specs.Feeding.{nightOf, fresh, stateAt, Grown, Fit};
-
-// The most lines of a day file.
-const MOST_LINES: u64 = 1_000_000;
 
 // A line is ended, and answered.
 pub fn line_on(
@@ -38,11 +37,11 @@ pub fn line_on(
     s: State,
 ) -> State
     requires { ⌜ Fit s (tables (now accounts) (now counters) (now pays)) (length (now out)) × (isOver (s .stage) ≡ false) ⌝ }
-    requires { ⌜ (length (now counts) ≡ 64) × (length (now buf) ≡ mostBytes) × (s .used + leastRoom ≤ length (now out)) ⌝ }
+    requires { ⌜ (length (now counts) ≡ mostCounts) × (length (now buf) ≡ mostBytes) × (s .used + leastRoom ≤ length (now out)) ⌝ }
     ensures { λ r. ⌜ nightOf r (tables (now (accounts .exit)) (now (counters .exit)) (now (pays .exit))) (now (out .exit)) ≡ answered (nightOf s (tables (now (accounts .entry)) (now (counters .entry)) (now (pays .entry))) (now (out .entry))) (lineOf (stateOf (now (buf .entry)) (s .cut))) ⌝ }
     ensures { λ r. ⌜ Fit r (tables (now (accounts .exit)) (now (counters .exit)) (now (pays .exit))) (length (now (out .entry))) × (r .cut ≡ fresh) × Grown (s .used) (r .used) (now (out .entry)) (now (out .exit)) ⌝ }
 {
-    if s.lines < MOST_LINES {
+    if s.lines < dayfile::MOST_LINES {
         let e = read(buf, s.cut, counts);
         return take_line(counts, accounts, counters, pays, out, s, e);
     }
@@ -51,9 +50,8 @@ pub fn line_on(
 
 // What the line says that the buffer holds. A group's counts are left in the lent list.
 fn read(buf: &[u8], c: Cut, counts: &mut [u64]) -> Entry
-    requires { ⌜ (length (now counts) ≡ 64) × (c .held ≤ length (now buf)) ⌝ }
-    ensures { λ r. ⌜ r ≡ entryIn (lineOf (stateOf (now (buf .entry)) c)) ⌝ }
-    ensures { λ r. ⌜ take (length (countsIn (lineOf (stateOf (now (buf .entry)) c)))) (now (counts .exit)) ≡ countsIn (lineOf (stateOf (now (buf .entry)) c)) ⌝ }
+    requires { ⌜ (length (now counts) ≡ mostCounts) × (c .held ≤ length (now buf)) ⌝ }
+    ensures { λ r. ⌜ Tells r (now (counts .exit)) (entryIn (lineOf (stateOf (now (buf .entry)) c))) ⌝ }
 {
     if c.is_long {
         return Entry::Bad;
@@ -73,7 +71,7 @@ fn take_line(
     e: Entry,
 ) -> State
     requires { ⌜ Fit s (tables (now accounts) (now counters) (now pays)) (length (now out)) × Read e (now counts) × (s .lines < mostLines) × (s .used + leastRoom ≤ length (now out)) ⌝ }
-    ensures { λ r. ⌜ nightOf r (tables (now (accounts .exit)) (now (counters .exit)) (now (pays .exit))) (now (out .exit)) ≡ after (nightOf s (tables (now (accounts .entry)) (now (counters .entry)) (now (pays .entry))) (now (out .entry))) (doesOf (s .lines + 1) (s .stage) (tables (now (accounts .entry)) (now (counters .entry)) (now (pays .entry))) e (now (counts .entry))) ⌝ }
+    ensures { λ r. ⌜ nightOf r (tables (now (accounts .exit)) (now (counters .exit)) (now (pays .exit))) (now (out .exit)) ≡ after (nightOf s (tables (now (accounts .entry)) (now (counters .entry)) (now (pays .entry))) (now (out .entry))) (doesOf (s .lines + 1) (s .stage) (tables (now (accounts .entry)) (now (counters .entry)) (now (pays .entry))) (meant e (now (counts .entry)))) ⌝ }
     ensures { λ r. ⌜ Fit r (tables (now (accounts .exit)) (now (counters .exit)) (now (pays .exit))) (length (now (out .entry))) × (r .cut ≡ fresh) × Grown (s .used) (r .used) (now (out .entry)) (now (out .exit)) ⌝ }
 {
     let n = s.lines + 1;

@@ -8,14 +8,15 @@ ghost use Prim.Native.Nat.{_+_, _≤_};
 ghost use lib.ListN.{length, take};
 ghost use Rattle.print.specs.Lines.{textOf};
 ghost use Rattle.print.specs.Room.{leastRoom, Ranges};
+ghost use Rattle.night.specs.Lines.{saidIn};
 ghost use Rattle.night.specs.Stands.{SaidRanges};
-ghost use Rattle.sheet.specs.Sheet.{saidText};
+ghost use Rattle.sheet.specs.Sheet.{textsOf};
 ghost use Rattle.sheet.specs.Feeding.{Grown};
 
-// What a line says goes behind what is used, and gives what is used then.
+// The lines that a line says at once go behind what is used; gives what is used then.
 pub fn tell(out: &mut [u8], used: usize, said: Said) -> usize
-    requires { ⌜ (used + leastRoom ≤ length (now out)) × SaidRanges said ⌝ }
-    ensures { λ r. ⌜ (take r (now (out .exit)) ≡ take used (now (out .entry)) ++ saidText said) × (r ≤ length (now (out .entry))) × Grown used r (now (out .entry)) (now (out .exit)) ⌝ }
+    requires { ⌜ (used + leastRoom ≤ length (now out)) × SaidRanges (saidIn said) ⌝ }
+    ensures { λ r. ⌜ (take r (now (out .exit)) ≡ take used (now (out .entry)) ++ textsOf (saidIn said)) × (r ≤ length (now (out .entry))) × Grown used r (now (out .entry)) (now (out .exit)) ⌝ }
 {
     match said {
         Said::Nothing => used,

@@ -2,19 +2,20 @@
 use crate::State;
 use crate::Turn;
 use crate::ends::end_on;
-use crate::ends::is_ending;
 use crate::is_over;
 use crate::lines::line_on;
 use crate::lines::stop;
+use night::is_ending;
 ghost use mathlib.Core.Path.{_≡_};
 ghost use mathlib.Core.Bool.{true, false};
 ghost use mathlib.Core.List.{[]};
 ghost use Prim.Native.Nat.{_+_, _-_, _≤_, _<_};
 ghost use lib.ListN.{length, take, drop};
+ghost use Rattle.dayfile.specs.Entries.{mostCounts};
 ghost use Rattle.cut.specs.Lines.{mostBytes};
 ghost use Rattle.print.specs.Room.{leastRoom};
 ghost use Rattle.tables.specs.Layout.{tables};
-ghost use Rattle.sheet.specs.Sheet.{isEnding, isOver};
+ghost use Rattle.night.specs.Stages.{isEnding, isOver};
 ghost use Rattle.sheet.specs.Turns.{eatTurn, turnOf, lastOf, closeTurn};
 ghost use Rattle.sheet.specs.Feeding.{nightOf, deskOf, fresh, goesAt, closesAt, turnsLeft, Grown, Fit};
 
@@ -63,7 +64,7 @@ pub fn turn_on(
     s: State,
 ) -> Turn
     requires { ⌜ Fit s (tables (now accounts) (now counters) (now pays)) (length (now out)) ⌝ }
-    requires { ⌜ (length (now counts) ≡ 64) × (length (now buf) ≡ mostBytes) × (from ≤ length (now chunk)) × (goesAt (length (now chunk)) (length (now out)) (record { at = from; state = s }) ≡ true) ⌝ }
+    requires { ⌜ (length (now counts) ≡ mostCounts) × (length (now buf) ≡ mostBytes) × (from ≤ length (now chunk)) × (goesAt (length (now chunk)) (length (now out)) (record { at = from; state = s }) ≡ true) ⌝ }
     ensures { λ r. ⌜ deskOf (drop (r .at) (now (chunk .entry))) (r .state) (tables (now (accounts .exit)) (now (counters .exit)) (now (pays .exit))) (now (out .exit)) (now (buf .exit)) ≡ turnOf (deskOf (drop from (now (chunk .entry))) s (tables (now (accounts .entry)) (now (counters .entry)) (now (pays .entry))) (now (out .entry)) (now (buf .entry))) ⌝ }
     ensures { λ r. ⌜ Fit (r .state) (tables (now (accounts .exit)) (now (counters .exit)) (now (pays .exit))) (length (now (out .entry))) × (r .at ≤ length (now (chunk .entry))) × (turnsLeft (r .state .stage) (length (now (chunk .entry)) - r .at) < turnsLeft (s .stage) (length (now (chunk .entry)) - from)) × Grown (s .used) (r .state .used) (now (out .entry)) (now (out .exit)) ⌝ }
 {
@@ -88,7 +89,7 @@ fn eat_on(
     s: State,
 ) -> Turn
     requires { ⌜ Fit s (tables (now accounts) (now counters) (now pays)) (length (now out)) × (isOver (s .stage) ≡ false) ⌝ }
-    requires { ⌜ (length (now counts) ≡ 64) × (length (now buf) ≡ mostBytes) × (from < length (now chunk)) × (s .used + leastRoom ≤ length (now out)) ⌝ }
+    requires { ⌜ (length (now counts) ≡ mostCounts) × (length (now buf) ≡ mostBytes) × (from < length (now chunk)) × (s .used + leastRoom ≤ length (now out)) ⌝ }
     ensures { λ r. ⌜ deskOf (drop (r .at) (now (chunk .entry))) (r .state) (tables (now (accounts .exit)) (now (counters .exit)) (now (pays .exit))) (now (out .exit)) (now (buf .exit)) ≡ eatTurn (deskOf (drop from (now (chunk .entry))) s (tables (now (accounts .entry)) (now (counters .entry)) (now (pays .entry))) (now (out .entry)) (now (buf .entry))) ⌝ }
     ensures { λ r. ⌜ Fit (r .state) (tables (now (accounts .exit)) (now (counters .exit)) (now (pays .exit))) (length (now (out .entry))) × (from < r .at) × (r .at ≤ length (now (chunk .entry))) × Grown (s .used) (r .state .used) (now (out .entry)) (now (out .exit)) ⌝ }
 {
@@ -118,7 +119,7 @@ pub fn close_on(
     out: &mut [u8],
     s: State,
 ) -> State
-    requires { ⌜ Fit s (tables (now accounts) (now counters) (now pays)) (length (now out)) × (length (now counts) ≡ 64) × (length (now buf) ≡ mostBytes) × (closesAt (length (now out)) s ≡ true) ⌝ }
+    requires { ⌜ Fit s (tables (now accounts) (now counters) (now pays)) (length (now out)) × (length (now counts) ≡ mostCounts) × (length (now buf) ≡ mostBytes) × (closesAt (length (now out)) s ≡ true) ⌝ }
     ensures { λ r. ⌜ deskOf [] r (tables (now (accounts .exit)) (now (counters .exit)) (now (pays .exit))) (now (out .exit)) (now (buf .entry)) ≡ closeTurn (deskOf [] s (tables (now (accounts .entry)) (now (counters .entry)) (now (pays .entry))) (now (out .entry)) (now (buf .entry))) ⌝ }
     ensures { λ r. ⌜ Fit r (tables (now (accounts .exit)) (now (counters .exit)) (now (pays .exit))) (length (now (out .entry))) × (turnsLeft (r .stage) (r .cut .held) < turnsLeft (s .stage) (s .cut .held)) × Grown (s .used) (r .used) (now (out .entry)) (now (out .exit)) ⌝ }
 {
@@ -140,7 +141,7 @@ fn last_on(
     s: State,
 ) -> State
     requires { ⌜ Fit s (tables (now accounts) (now counters) (now pays)) (length (now out)) × (isOver (s .stage) ≡ false) × (isEnding (s .stage) ≡ false) ⌝ }
-    requires { ⌜ (length (now counts) ≡ 64) × (length (now buf) ≡ mostBytes) × (s .used + leastRoom ≤ length (now out)) ⌝ }
+    requires { ⌜ (length (now counts) ≡ mostCounts) × (length (now buf) ≡ mostBytes) × (s .used + leastRoom ≤ length (now out)) ⌝ }
     ensures { λ r. ⌜ nightOf r (tables (now (accounts .exit)) (now (counters .exit)) (now (pays .exit))) (now (out .exit)) ≡ lastOf (take (s .cut .held) (now (buf .entry))) (deskOf [] s (tables (now (accounts .entry)) (now (counters .entry)) (now (pays .entry))) (now (out .entry)) (now (buf .entry))) ⌝ }
     ensures { λ r. ⌜ Fit r (tables (now (accounts .exit)) (now (counters .exit)) (now (pays .exit))) (length (now (out .entry))) × (r .cut ≡ fresh) × (turnsLeft (r .stage) 0 < turnsLeft (s .stage) (s .cut .held)) × Grown (s .used) (r .used) (now (out .entry)) (now (out .exit)) ⌝ }
 {

@@ -26,10 +26,11 @@ read-member-requires c κs = search needs
 
 returns : tie.Need-returns
 returns c =
-    let t = c .before .before .before .before .before .next-tab in
+    let u = c .before .before .before .before .before in
+    let a = u .before .before .before .args in
+    let t = u .next-tab in
     let q = c .before .before .equal in
-    let a = c .before .before .before .before .before .before .before .before .args in
-    line-member (a .line .now) (t .result) (t .ensures .0) (t .ensures .2) (q .result) (q .ensures) (c .before .if1 .taken) (c .read-member .result) (a .counts .now) (c .read-member .ensures)
+    line-member (a .line .now) (t .result) (t .ensures .0) (t .ensures .2) (q .result) (q .ensures) (c .before .if1 .taken) (a .counts .now) (c .read-member .ensures)
 
 read-kind-requires : tie.Need-read-kind-requires
 read-kind-requires c κs = search needs
@@ -39,11 +40,13 @@ same-length c = search needs
 
 returns-2 : tie.Need-returns-2
 returns-2 c =
-    let t = c .before .before .before .before .before .before .before .before .next-tab in
-    let q = c .before .before .before .before .before .equal in
+    let i = c .before .before .before .before in
+    let u = i .before .before .before .before in
+    let t = u .next-tab in
+    let q = i .before .equal in
     let k = c .before .before .read-kind in
-    let a = c .before .before .before .before .before .before .before .before .before .before .before .args in
-    line-kind (a .line .now) (t .result) (t .ensures .0) (t .ensures .2) (q .result) (q .ensures) (c .before .before .before .before .if1 .left) (k .result) (a .counts .now) (k .last .1 .1 .0) (k .ensures .0) (k .ensures .1)
+    let a = u .before .before .before .args in
+    line-kind (a .line .now) (t .result) (t .ensures .0) (t .ensures .2) (q .result) (q .ensures) (i .if1 .left) (a .counts .now) (k .last .1 .1 .0) (k .ensures .0) (k .ensures .1)
 
 pub read-line-spec : {M : Type 1} → statement M
 read-line-spec =

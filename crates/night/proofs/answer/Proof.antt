@@ -1,6 +1,7 @@
 -- `night::answer` meets its contract: no loop; each stage is a case.
-use Rattle.night.proofs.Stages.{stands-at, read-small}
-use Rattle.tables.specs.Layout.{tables}
+use mathlib.Core.Path.{_∙_}
+use Rattle.tables.specs.Layout.{Tables, tables}
+use Rattle.night.proofs.Found.{stands-at, read-small, house-any, member-any}
 use borrow.Author.Needs.{needs}
 use Rattle.night.proofs.answer.Statement.{statement}
 use Rattle.night.proofs.answer.Tie as tie
@@ -15,13 +16,21 @@ enum-known-stage : tie.Need-enum-known-stage
 enum-known-stage c = search needs
 
 member-line-requires : tie.Need-member-line-requires
-member-line-requires c κs = (stands-at (tables (c .before .before .before .before .before .before .before .before .before .args .accounts .now) (c .before .before .before .before .before .before .before .before .before .args .counters .now) (c .before .before .before .before .before .before .before .before .before .args .pays .now)) _ (c .before .before .before .before .stage .given .1) (c .before .before .before .before .before .before .before .before .before .pre .0), read-small (c .before .before .before .before .before .before .before .before .before .pre .1))
+member-line-requires c κs =
+    let g = c .before .before .before .before in
+    let s = g .before .before .before .before .before in
+    let t : Tables = tables (s .args .accounts .now) (s .args .counters .now) (s .args .pays .now) in
+    (stands-at t _ (g .stage .given .1) (s .pre .0), read-small (s .pre .1))
 
 enum-told-2 : tie.Need-enum-told-2
 enum-told-2 c = search needs
 
 day-line-requires : tie.Need-day-line-requires
-day-line-requires c κs = (stands-at (tables (c .before .before .before .before .before .before .before .before .args .accounts .now) (c .before .before .before .before .before .before .before .before .args .counters .now) (c .before .before .before .before .before .before .before .before .args .pays .now)) _ (c .before .before .before .enum-told2 .given .1) (c .before .before .before .before .before .before .before .before .pre .0), c .before .before .before .before .before .before .before .before .pre .1)
+day-line-requires c κs =
+    let g = c .before .before .before in
+    let s = g .before .before .before .before .before in
+    let t : Tables = tables (s .args .accounts .now) (s .args .counters .now) (s .args .pays .now) in
+    (stands-at t _ (g .enum-told2 .given .1) (s .pre .0), s .pre .1)
 
 enum-known-stage-2 : tie.Need-enum-known-stage-2
 enum-known-stage-2 c = search needs
@@ -36,7 +45,11 @@ quiet-requires-2 : tie.Need-quiet-requires-2
 quiet-requires-2 c κs = search needs
 
 returns : tie.Need-returns
-returns c = rw (c .before .enum-told .given .1) (c .house-line .ensures (tables (c .before .before .before .before .before .before .args .accounts .now) (c .before .before .before .before .before .before .args .counters .now) (c .before .before .before .before .before .before .args .pays .now)))
+returns c =
+    let g = c .before in
+    let s = g .before .before .before .before .before .args in
+    let t : Tables = tables (s .accounts .now) (s .counters .now) (s .pays .now) in
+    rw (g .enum-told .given .1) (c .house-line .ensures t ∙ house-any (s .n) t (s .e) (s .counts .now))
 
 same-length : tie.Need-same-length
 same-length c = search needs
@@ -48,7 +61,12 @@ same-length-3 : tie.Need-same-length-3
 same-length-3 c = search needs
 
 returns-2 : tie.Need-returns-2
-returns-2 c = rw (c .before .before .before .before .before .before .before .before .before .before .stage .given .1) (c .before .before .before .before .before .member-line .ensures)
+returns-2 c =
+    let r = c .before .before .before .before .before in
+    let g = r .before .before .before .before .before in
+    let s = g .before .before .before .before .before .args in
+    let t : Tables = tables (s .accounts .now) (s .counters .now) (s .pays .now) in
+    rw (g .stage .given .1) (r .member-line .ensures ∙ member-any (s .n) _ _ t (s .e) (s .counts .now))
 
 same-length-4 : tie.Need-same-length-4
 same-length-4 c = search needs
@@ -60,7 +78,9 @@ same-length-6 : tie.Need-same-length-6
 same-length-6 c = search needs
 
 returns-3 : tie.Need-returns-3
-returns-3 c = rw (c .before .before .before .before .before .before .before .before .before .enum-told2 .given .1) (c .before .before .before .before .before .day-line .ensures)
+returns-3 c =
+    let r = c .before .before .before .before .before in
+    rw (r .before .before .before .before .enum-told2 .given .1) (r .day-line .ensures)
 
 returns-4 : tie.Need-returns-4
 returns-4 c = rw (c .quiet .ensures, c .before .before .stage2 .given .1)

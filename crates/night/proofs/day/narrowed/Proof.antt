@@ -3,13 +3,14 @@ use Rattle.night.proofs.Settling.{least-turn}
 use Rattle.night.specs.Lines.{least}
 use lib.ListN.{length, getD, length-set}
 use native.Mathlib.Omega.{arith}
+use Rattle.tables.specs.Sizes.{members}
 use Prim.Native.Nat.{ℕ, _-_, _≤_, _<_}
 use mathlib.Core.Path.{_≡_, refl}
 use Rattle.night.proofs.day.narrowed.Statement.{statement}
 use Rattle.night.proofs.day.narrowed.Tie as tie
 
 abbrev Inv-loop : tie.InvT-loop
-Inv-loop counts m k₀ i₀ k i = (length k ≡ 64) × (i ≤ m) × ((j : ℕ) → j < i → getD k j 0 ≡ least (getD counts j 0))
+Inv-loop counts m k₀ i₀ k i = (length k ≡ members) × (i ≤ m) × ((j : ℕ) → j < i → getD k j 0 ≡ least (getD counts j 0))
 
 abbrev μ-loop : tie.MeasureT-loop
 μ-loop counts m k₀ i₀ k i = m - i

@@ -1,6 +1,7 @@
 -- `night::day::resolve` meets its contract: no loop.
 use lib.ListN.{take, replicate, length-take}
 use native.Mathlib.Omega.{arith}
+use Rattle.tables.specs.Sizes.{members}
 use Rattle.tables.specs.Layout.{tables}
 use Rattle.night.proofs.Settling.{resolve-line, never-refused}
 use borrow.Author.Needs.{needs}
@@ -46,7 +47,7 @@ same-length-3 c = search needs
 returns : tie.Need-returns
 returns c =
     let s = c .before .before .before .before .before .before .before .before .before .before .before .before .before .before .before .before .before .before .before in
-    rw (c .told .ensures) (resolve-line (tables (s .args .accounts .now) (s .args .counters .now) (s .args .pays .now)) (s .args .n) (take (c .before .before .before .before .before .before .before .before .before .before .before .before .before .before .before .wide .result) (replicate 64 0)) (s .pre) (simp length-take (omega (arith, c .before .before .before .before .before .before .before .before .before .before .before .before .before .before .before .wide .ensures, s .pre .counters .few))) (rw (c .before .before .r .given .1) at (c .before .before .before .before .before .before .before .before .before .before .resolve .ensures .0)))
+    rw (c .told .ensures) (resolve-line (tables (s .args .accounts .now) (s .args .counters .now) (s .args .pays .now)) (s .args .n) (take (c .before .before .before .before .before .before .before .before .before .before .before .before .before .before .before .wide .result) (replicate members 0)) (s .pre) (simp length-take (omega (arith, c .before .before .before .before .before .before .before .before .before .before .before .before .before .before .before .wide .ensures, s .pre .counters .few))) (rw (c .before .before .r .given .1) at (c .before .before .before .before .before .before .before .before .before .before .resolve .ensures .0)))
 
 same-length-4 : tie.Need-same-length-4
 same-length-4 c = search needs
@@ -60,7 +61,7 @@ same-length-6 c = search needs
 returns-2 : tie.Need-returns-2
 returns-2 c =
     let s = c .before .before .before .before .before .before .before .before .before .before .before .before .before .before .before .before .before .before .before in
-    absurd (never-refused (tables (s .args .accounts .now) (s .args .counters .now) (s .args .pays .now)) (take (c .before .before .before .before .before .before .before .before .before .before .before .before .before .before .before .wide .result) (replicate 64 0)) (c .before .before .r2 .given .0 .0) (simp length-take (omega (arith, c .before .before .before .before .before .before .before .before .before .before .before .before .before .before .before .wide .ensures, s .pre .counters .few))) (rw (c .before .before .r2 .given .1) at (c .before .before .before .before .before .before .before .before .before .before .resolve .ensures .0)))
+    absurd (never-refused (tables (s .args .accounts .now) (s .args .counters .now) (s .args .pays .now)) (take (c .before .before .before .before .before .before .before .before .before .before .before .before .before .before .before .wide .result) (replicate members 0)) (c .before .before .r2 .given .0 .0) (simp length-take (omega (arith, c .before .before .before .before .before .before .before .before .before .before .before .before .before .before .before .wide .ensures, s .pre .counters .few))) (rw (c .before .before .r2 .given .1) at (c .before .before .before .before .before .before .before .before .before .before .resolve .ensures .0)))
 
 pub resolve-spec : {M : Type 1} → statement M
 resolve-spec =

@@ -4,12 +4,13 @@ use Rattle.rule.proofs.Ints.{plain}
 use lib.ListN.{length, take, drop, length-set}
 use native.Mathlib.Omega.{arith}
 use mathlib.Core.Path.{_≡_, refl, sym}
+use Rattle.tables.specs.Sizes.{members}
 use Prim.Native.Nat.{_-_, _≤_}
 use Rattle.night.proofs.openings.block.Statement.{statement}
 use Rattle.night.proofs.openings.block.Tie as tie
 
 abbrev Inv-loop : tie.InvT-loop
-Inv-loop accounts from m b₀ i₀ b i = (length b ≡ 64) × (i ≤ m) × (take i b ≡ take i (drop from accounts))
+Inv-loop accounts from m b₀ i₀ b i = (length b ≡ members) × (i ≤ m) × (take i b ≡ take i (drop from accounts))
 
 abbrev μ-loop : tie.MeasureT-loop
 μ-loop accounts from m b₀ i₀ b i = m - i

@@ -1,7 +1,5 @@
 -- `sheet::lines::line_on` meets its contract: no loop.
-use Rattle.sheet.proofs.Steps.{answered-taken, answered-stopped, fit-over}
-use Rattle.sheet.proofs.Writing.{read-small}
-use Rattle.sheet.specs.Sheet.{countsIn}
+use Rattle.sheet.proofs.Steps.{line-read, answered-taken, answered-stopped, fit-over}
 use Rattle.sheet.specs.declared.State.{State}
 use Rattle.tables.specs.Layout.{Tables, tables}
 use Rattle.cut.specs.Lines.{Line}
@@ -18,9 +16,11 @@ read-requires c κs = search needs
 
 take-line-requires : tie.Need-take-line-requires
 take-line-requires c κs =
-    let s = c .before .before .before .before .before .before .before .before .before .before .before .before .before .before .before .before in
+    let r = c .before .before .before .before .before .before .before in
+    let i = r .before .before in
+    let s = i .before .before .before .before .before .before .before in
     let l : Line = lineOf (stateOf (s .args .buf .now) (s .args .s .cut)) in
-    (s .pre .0 .0, record { numbers = countsIn l; small = read-small l (c .before .before .before .before .before .before .before .read .ensures .0); left = c .before .before .before .before .before .before .before .read .ensures .1 }, c .before .before .before .before .before .before .before .before .before .if1 .taken, s .pre .1 .2)
+    (s .pre .0 .0, line-read l (r .read .ensures), i .if1 .taken, s .pre .1 .2)
 
 same-length : tie.Need-same-length
 same-length c = search needs
@@ -39,12 +39,13 @@ same-length-5 c = search needs
 
 returns : tie.Need-returns
 returns c =
-    let s = c .before .before .before .before .before .before .before .before .before .before .before .before .before .before .before .before .before .before .before .before .before .before .before .before in
+    let d = c .before .before .before .before .before .before .before in
+    let r = d .before .before .before .before .before .before .before .before in
+    let i = r .before .before in
+    let s = i .before .before .before .before .before .before .before in
     let t : Tables = tables (s .args .accounts .now) (s .args .counters .now) (s .args .pays .now) in
     let l : Line = lineOf (stateOf (s .args .buf .now) (s .args .s .cut)) in
-    let r = c .before .before .before .before .before .before .before .before .before .before .before .before .before .before .before .read in
-    let d = c .before .before .before .before .before .before .before .take-line in
-    (answered-taken (s .args .s) t (s .args .out .now) l (s .pre .0 .1) (r .result) (r .last .1 .1 .0) _ (c .before .before .before .before .before .before .before .before .before .before .before .before .before .before .before .before .before .if1 .taken) (r .ensures .0) (r .ensures .1) (d .ensures .0), d .ensures .1)
+    (answered-taken (s .args .s) t (s .args .out .now) l (s .pre .0 .1) _ (i .if1 .taken) (r .read .ensures) (d .take-line .ensures .0), d .take-line .ensures .1)
 
 add-stop : tie.Need-add-stop
 add-stop c = search needs

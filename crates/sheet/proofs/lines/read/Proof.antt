@@ -1,6 +1,5 @@
 -- `sheet::lines::read` meets its contract: no loop.
-use Rattle.sheet.proofs.Writing.{counts-left}
-use lib.ListN.{take, length-take}
+use lib.ListN.{length-take}
 use native.Mathlib.Omega.{arith}
 use borrow.Author.Needs.{needs}
 use Rattle.sheet.proofs.lines.read.Statement.{statement}
@@ -19,9 +18,7 @@ same-length : tie.Need-same-length
 same-length c = search needs
 
 returns-2 : tie.Need-returns-2
-returns-2 c =
-    let s = c .before .before .before .before .before .before .before .before in
-    rw (c .before .before .before .before .before .if1 .left) (c .before .before .read-line .ensures .0, counts-left (take (s .args .c .held) (s .args .buf .now)) (s .args .counts .now) _ (s .pre .0) (c .before .before .read-line .ensures .1))
+returns-2 c = rw (c .before .before .before .before .before .if1 .left) (c .before .before .read-line .ensures .0)
 
 pub read-spec : {M : Type 1} → statement M
 read-spec =

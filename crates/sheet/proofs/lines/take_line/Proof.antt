@@ -1,5 +1,6 @@
 -- `sheet::lines::take_line` meets its contract: no loop.
 use Rattle.sheet.proofs.Steps.{did-kept, taken}
+use Rattle.dayfile.specs.Reading.{meant}
 use Rattle.tables.specs.Layout.{Tables, tables}
 use native.Mathlib.Omega.{arith}
 use Prim.Native.Nat.{_+_}
@@ -19,7 +20,7 @@ tell-requires c κs =
     let s = c .before .before .before .before .before .before .before .before .before .before .before .before .before .before .before in
     let t : Tables = tables (s .args .accounts .now) (s .args .counters .now) (s .args .pays .now) in
     let a = c .before .before .before .before .before .before .answer in
-    (s .pre .3, did-kept (s .args .s .lines + 1) (s .args .s .stage) t (s .args .e) (s .args .counts .now) (a .result) (tables (a .last .0) (a .last .1 .0) (a .last .1 .1 .0)) (omega arith) (λ i. omega (arith, c .before .before .before .before .before .before .before .before .before .before .before .before .before .slice-known .given i)) (s .pre .0 .stands) (a .ensures) .ranges)
+    (s .pre .3, did-kept (s .args .s .lines + 1) (s .args .s .stage) t (meant (s .args .e) (s .args .counts .now)) (a .result) (tables (a .last .0) (a .last .1 .0) (a .last .1 .1 .0)) (omega arith) (λ i. omega (arith, c .before .before .before .before .before .before .before .before .before .before .before .before .before .slice-known .given i)) (s .pre .0 .stands) (a .ensures) .ranges)
 
 between-requires : tie.Need-between-requires
 between-requires c κs = search needs
@@ -42,10 +43,10 @@ returns c =
     let t : Tables = tables (s .args .accounts .now) (s .args .counters .now) (s .args .pays .now) in
     let a = c .before .before .before .before .before .before .before .before .before .before .answer in
     let u : Tables = tables (a .last .0) (a .last .1 .0) (a .last .1 .1 .0) in
-    let k = did-kept (s .args .s .lines + 1) (s .args .s .stage) t (s .args .e) (s .args .counts .now) (a .result) u (omega arith) (λ i. omega (arith, c .before .before .before .before .before .before .before .before .before .before .before .before .before .before .before .before .before .slice-known .given i)) (s .pre .0 .stands) (a .ensures) in
+    let k = did-kept (s .args .s .lines + 1) (s .args .s .stage) t (meant (s .args .e) (s .args .counts .now)) (a .result) u (omega arith) (λ i. omega (arith, c .before .before .before .before .before .before .before .before .before .before .before .before .before .before .before .before .before .slice-known .given i)) (s .pre .0 .stands) (a .ensures) in
     let p = c .before .before .before .tell in
     rw (c .between .ensures) (
-      taken (s .args .s) t (s .args .out .now) (s .args .e) (s .args .counts .now) (a .result) u (p .result) _ (a .ensures) (p .ensures .0),
+      taken (s .args .s) t (s .args .out .now) (meant (s .args .e) (s .args .counts .now)) (a .result) u (p .result) _ (a .ensures) (p .ensures .0),
       (record { few = omega arith; room = p .ensures .1; held = omega arith; stands = k .stands }, refl, p .ensures .2),
     )
 

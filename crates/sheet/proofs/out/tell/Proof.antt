@@ -15,16 +15,23 @@ enum-known-said : tie.Need-enum-known-said
 enum-known-said c = search needs
 
 put-requires : tie.Need-put-requires
-put-requires c κs = (c .before .before .before .before .before .pre .0, said-ranges _ _ (c .before .before .said .given .1) (c .before .before .before .before .before .pre .1))
+put-requires c κs =
+    let g = c .before .before in
+    let s = g .before .before .before in
+    (s .pre .0, said-ranges (s .args .said) _ (g .said .given .1) (s .pre .1))
 
 returns : tie.Need-returns
-returns c = rw (c .enum-told .given .1) (sym (append-nil (take (c .before .before .before .args .used) (c .before .before .before .args .out .now))), omega arith, grown-none _ _)
+returns c =
+    let s = c .before .before .before .args in
+    rw (c .enum-told .given .1) (sym (append-nil (take (s .used) (s .out .now))), omega arith, grown-none _ _)
 
 same-length : tie.Need-same-length
 same-length c = search needs
 
 returns-2 : tie.Need-returns-2
-returns-2 c = rw (c .before .before .before .before .before .said .given .1) (c .before .before .put .ensures)
+returns-2 c =
+    let p = c .before .before in
+    rw (p .before .before .before .said .given .1, append-nil) (p .put .ensures)
 
 pub tell-spec : {M : Type 1} → statement M
 tell-spec =
