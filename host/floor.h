@@ -18,7 +18,8 @@ enum said { NO, YES, NOTHING };
 /* The kinds of lines. Those up to END are the day file's own. BLANK has no word, BAD is no line. */
 enum kind { HOUSE, MEMBER, PAY, DEPOSIT, RELEASE, GROUP, RESOLVE, END, SHOW, HELP, BLANK, BAD };
 
-/* A line: its kind and its numbers. A bad one says why, and what kind its first word is about; help has a kind that it is about. */
+/* A line: its kind and its numbers. A bad one says why, and is about the kind that its first word names, or BLANK if it is too long; help
+ * is about a kind too. */
 struct line {
     enum kind kind, about;
     int given;

@@ -89,7 +89,7 @@ static struct line line_of(char **words, int given) {
     }
     for (int i = 0; i < line.given; i++)
         if (!read_number(words[i + 1], line.kind == MEMBER && i == 1, &line.values[i]))
-            return bad_line(line.kind, "not a number. Only digits, no leading 0; amounts are in cents: 123456 is 1,234.56.");
+            return bad_line(line.kind, "not a number. Only digits, at most 18, no leading 0; amounts are in cents: 123456 is 1,234.56.");
     return line;
 }
 
@@ -98,7 +98,7 @@ struct line typed_line(char *text, int length) {
     struct line blank = {BLANK, BAD, 0, {0}, NULL};
     char *words[WORDS];
     int given = 0;
-    if (length > LINE_BYTES) return bad_line(BAD, "the line is too long.");
+    if (length > LINE_BYTES) return bad_line(BLANK, "the line is too long.");
     for (char *word = strtok(text, " \t\r"); word && given < WORDS; word = strtok(NULL, " \t\r")) words[given++] = word;
     return given == 0 ? blank : line_of(words, given);
 }

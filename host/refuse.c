@@ -19,6 +19,7 @@ enum outcome refuse_words(const struct floor *floor, const char *why) {
 enum outcome refuse_line(const struct floor *floor, const struct line *line) {
     refused(floor, line->why);
     if (floor->replays) printf("\n");
+    else if (line->about == BLANK) printf(" It may have %d bytes.\n", LINE_BYTES);
     else if (line->about == BAD) printf(" Type help.\n");
     else printf(" Type: %s\n", line_form(line->about));
     return floor->is_open || floor->at_terminal ? GO_ON : REFUSED;

@@ -84,6 +84,19 @@ def foreign_files(folder):
         same_tables(folder + "/copy", text, f"damaged night of seed {seed}")
 
 
+def forms(folder):
+    """A line that is not quite in the day file's form is passed over, as nightsheet does."""
+    begin = "house\t1\t2\nmember\t1\t500\t0\nmember\t2\t0\t100\npay\t1\t1\t2\t5\n"
+    for line in ["deposit\t1\t7", "deposit 1 7", "deposit\t1 7", "deposit\t\t1\t7", "\tdeposit\t1\t7", "deposit\t1\t7\t", "deposit\t1\t7 ",
+                 "deposit\t1\t7\r", "deposit\t1\t07", "deposit\t1\t+7", "deposit\t1\t-7", "deposit\t1", "deposit\t1\t7\t7", "Deposit\t1\t7",
+                 "pay\t1\t2\t7", "pay\t1\t2\t2\t7", "pay\t1\t2\t2\t7\t", "release\t1", "release 1", "release\t01", "group\t1\t0", "group\t1\t0\t",
+                 "group 1 0", "group", "resolve", "resolve\t", " resolve", "resolve ", "show", "show\t1", "help", "end\t", " end", "END", "house\t1\t2",
+                 "member\t1\t5\t0", "", " ", "\t", "\0", "res\0olve", "resolve\0"]:
+        text = (begin + line + "\ndeposit\t2\t9\n").encode()
+        write(folder + "/form", text)
+        same_tables(folder + "/form", text, f"line {line!r}", CHECKED)
+
+
 def damaged(dice, text):
     """A few bytes changed, left out, doubled or put in; often the last line end is gone."""
     text = bytearray(text)
@@ -236,10 +249,21 @@ def killed(folder, seed):
         check(sheet_of(read(path)) == sheet_of("".join(l + "\n" for l in lines).encode()), f"killed night of seed {seed}: other sheet")
 
 
+STOPPED = ["house\t1\t2", "member\t1\t500\t0", "member\t2\t0\t100", "pay\t1\t1\t2\t400", "pay\t2\t1\t1\t3000", "release\t1",
+           "pay\t1\t2\t2\t2600", "group\t1\t0", "deposit\t1\t12", "resolve", "end"]
+ANSWER = re.compile(r"^(?:queued|released|booked|deposited|refused|nothing was booked)\b", re.M)
+
+
+def synced(folder):
+    """The folder is synced once; then each line is written twice, its first byte last, and synced each time. An opening line cuts first."""
+    sit(Terminal(FLOOR, folder + "/synced.day", LD_PRELOAD=STOP, STOP_LOG=folder + "/log"), STOPPED, 0)
+    log = read(folder + "/log").decode()
+    check(log == "s" + "tswsws" * 3 + "wsws" * (len(STOPPED) - 3), f"writes and syncs were {log}")
+
+
 def stopped(folder):
     """A night that is stopped before, in the middle of and behind each write to its file, or whose writes fail from one on."""
-    lines = ["house\t1\t2", "member\t1\t500\t0", "member\t2\t0\t100", "pay\t1\t1\t2\t400", "pay\t2\t1\t1\t3000", "release\t1",
-             "pay\t1\t2\t2\t2600", "group\t1\t0", "deposit\t1\t12", "resolve", "end"]
+    lines = STOPPED
     for how in ["before", "half", "after", "fail", "dead"]:
         for at in range(1, 1000):
             path, what = f"{folder}/{how}-{at}.day", f"stopped {how} at write {at}"
@@ -247,6 +271,7 @@ def stopped(folder):
             if status == 0:
                 break
             check(status == (2 if how in ["fail", "dead"] else -signal.SIGKILL), f"{what}: status {status}")
+            check(len(ANSWER.findall(said)) == max(0, answered - 3), f"{what}: something was answered that was not written:\n{said}")
             k = in_file(path, lines, answered, what, 0 if how == "fail" else 1)
             if k is not None:
                 answered, said, status = sit(Terminal(FLOOR, path), lines, k)
@@ -334,9 +359,10 @@ def lost_screen(folder):
 def main():
     with tempfile.TemporaryDirectory() as folder:
         foreign_files(folder)
+        forms(folder)
         for seed in range(SEED, SEED + SEEDS):
             killed(folder, seed)
-        for test in [stopped, stopped_while_mending, cannot_grow, in_use, million, lost_screen]:
+        for test in [synced, stopped, stopped_while_mending, cannot_grow, in_use, million, lost_screen]:
             test(folder)
     print(f"{passed} passed, {failed} failed")
     sys.exit(failed > 0)
