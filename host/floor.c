@@ -26,8 +26,10 @@ static const char usage[] =
 
 /* Ends the night, if nobody says no. Without an answer the night stays as it is. */
 static enum outcome end_line(struct floor *floor, const struct line *line) {
+    uint64_t waiting = snarevapor_waiting(floor->tables);
     if (floor->asks) {
-        printf("End the night?");
+        if (waiting == 0) printf("End the night?");
+        else printf("End the night, with %" PRIu64 " payment%s waiting?", waiting, waiting == 1 ? "" : "s");
         enum said said = desk_ask(floor);
         if (said != YES) return said == NO ? GO_ON : LEFT;
     }

@@ -45,6 +45,14 @@ int night_open(struct night *night, const char *path) {
     return night->file ? 0 : fails(path, strerror(errno));
 }
 
+/* Says so if the file is no longer as the floor left it: somebody else wrote to it, or removed it. */
+static int is_foreign(const struct night *night) {
+    struct stat status;
+    if (fstat(fileno(night->file), &status) == 0 && status.st_nlink > 0 && status.st_size == night->end) return 0;
+    fails(night->path, "somebody else changed or removed it");
+    return 1;
+}
+
 /* The next byte of the file, which stays to be read. */
 static int peek(FILE *file) { return ungetc(getc(file), file); }
 
@@ -77,15 +85,17 @@ static int put_down(int file, const char *bytes, size_t length, off_t at) {
 
 /* Adds a line. If that fails nothing is to be booked for it. */
 int night_add(struct night *night, const struct line *line) {
+    static const char stops[] = "nothing was booked for this line, and the night stops here";
     char text[LINE_ROOM];
     if (!night->file) return 0;
+    if (is_foreign(night)) return fails(night->path, stops);
     int file = fileno(night->file);
     write_line(line, text);
     size_t length = strlen(text);
     if (put_down(file, text + 1, length - 1, night->end + 1) != 0 || put_down(file, text, 1, night->end) != 0) {
         fails(night->path, strerror(errno));
         if (ftruncate(file, night->end) != 0) fails(night->path, "the line may stand in the file");
-        return fails(night->path, "nothing was booked for this line, and the night stops here");
+        return fails(night->path, stops);
     }
     night->end += (off_t)length, night->lines++;
     return 0;
@@ -93,7 +103,8 @@ int night_add(struct night *night, const struct line *line) {
 
 /* Cuts the file off behind so many lines, which end there. */
 int night_cut(struct night *night, off_t end, long lines) {
-    if (!night->file) return 0;
+    if (!night->file || end == night->end) return 0;
+    if (is_foreign(night)) return -1;
     night->end = end, night->lines = lines, night->lacks_end = 0;
     return ftruncate(fileno(night->file), end) == 0 && fsync(fileno(night->file)) == 0 ? 0 : fails(night->path, strerror(errno));
 }

@@ -1,8 +1,9 @@
 #!/bin/sh
-# The host side, from outside. Installs into a temporary prefix, builds examples/small.c against that, and looks at the archive's names and
-# the header alone. Then the floor, plain and with the sanitizers: stored sessions by a pipe (tests/host/NAME.in gives NAME.out, with the
-# words of NAME.args), screens at a pseudo-terminal (tests/host/*.screen and docs/FLOOR.md), and nights that are killed, stopped, full or
-# foreign (tests/host/nights.py). `tests/host.sh --store` writes sessions and screens anew. Ends in 'N passed, M failed'.
+# The host side, from outside. Installs into a temporary prefix, builds examples/small.c against that, looks at the archive's names and the
+# header alone, and lends what can only be read to calls that are refused. Then the floor, plain and with the sanitizers: stored sessions by
+# a pipe (tests/host/NAME.in gives NAME.out, with the words of NAME.args), screens at a pseudo-terminal (tests/host/*.screen and
+# docs/FLOOR.md), and nights that are killed, stopped, full or foreign (tests/host/nights.py). `tests/host.sh --store` writes sessions and
+# screens anew. Needs gcc, g++ and python3. Ends in 'N passed, M failed'.
 set -u
 cd "$(dirname "$0")/.." || exit 2
 passed=0 failed=0 store=
@@ -76,6 +77,10 @@ check "the archive asks for other names" asks_little
 check "the header alone is not C99" gcc $strict -Wconversion -Wshadow -fsyntax-only -x c include/snarevapor.h
 check "the header alone is not C++11" g++ -std=c++11 -Wall -Wextra -Wpedantic -Werror -fsyntax-only -x c++ include/snarevapor.h
 command -v groff >/dev/null && check "a man page is malformed" man_pages
+
+# shellcheck disable=SC2086
+check "tests/host/readonly.c does not build" gcc $strict -I include tests/host/readonly.c "$archive" -o "$work/readonly"
+check "a refused call writes" "$work/readonly"
 
 mkdir -p "$work/bin"
 # shellcheck disable=SC2086

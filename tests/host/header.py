@@ -1,7 +1,7 @@
 #!/usr/bin/env python3
 """Header, example, host and docs/BYTES.md say the same: header.py ARCHIVE FOLDER. FOLDER gets the programs that it builds, and what they
 print. Ends in 'N passed, M failed'."""
-import glob, re, subprocess, sys
+import glob, hashlib, re, subprocess, sys
 
 ARCHIVE, FOLDER = sys.argv[1:3]
 STRICT = ["-std=c99", "-Wall", "-Wextra", "-Wpedantic", "-Werror", "-I", "include"]
@@ -69,6 +69,16 @@ for path in sorted(glob.glob("host/*.[ch]")):
     for key in said:
         if key.startswith(("word-", "verdict-")):
             check(f'"{said[key]}' not in text, f"{path} repeats the words '{said[key]}'")
+
+# What a host was built on changes only with the version: all numbers of the header, as each version has them, summed up.
+SUMS = {1: "935e428f2b91c303"}
+every = sorted(set(re.findall(r"\bSNAREVAPOR_[A-Z_]+\b", re.sub(r"/\*.*?\*/", "", header, flags=re.S))) - {"SNAREVAPOR_H", "SNAREVAPOR_VERSION"})
+with open(f"{FOLDER}/every.c", "w") as file:
+    file.write('#include "snarevapor.h"\n#include <stdio.h>\nint main(void) {\n')
+    file.writelines(f'    printf("{name} %lld\\n", (long long){name});\n' for name in every)
+    file.write("    return 0;\n}\n")
+version, sum_now = numbers["SNAREVAPOR_VERSION"], hashlib.sha256(output(f"{FOLDER}/every.c", "every").encode()).hexdigest()[:16]
+check(SUMS.get(version) == sum_now, f"the header's numbers are no longer those of version {version}: a new version has the sum {sum_now}")
 
 # docs/BYTES.md: its table has each size and place of the header, with the number that it has there.
 document = read("docs/BYTES.md")

@@ -151,10 +151,11 @@ def one_line(dice, count, last):
 class Terminal:
     """A floor at a pseudo-terminal, and what it said."""
 
-    def __init__(self, floor, *words, **environment):
+    def __init__(self, floor, *words, hangup=signal.SIG_DFL, **environment):
         self.said, self.mark = b"", -1
         self.pid, self.screen = pty.fork()
         if self.pid == 0:
+            signal.signal(signal.SIGHUP, hangup)
             os.environ.update(environment)
             os.execv(floor, ["floor", *words])
 
@@ -255,10 +256,10 @@ ANSWER = re.compile(r"^(?:queued|released|booked|deposited|refused|nothing was b
 
 
 def synced(folder):
-    """The folder is synced once; then each line is written twice, its first byte last, and synced each time. An opening line cuts first."""
+    """The folder is synced once; then each line is written in two steps, its first byte last, and synced after each."""
     sit(Terminal(FLOOR, folder + "/synced.day", LD_PRELOAD=STOP, STOP_LOG=folder + "/log"), STOPPED, 0)
     log = read(folder + "/log").decode()
-    check(log == "s" + "tswsws" * 3 + "wsws" * (len(STOPPED) - 3), f"writes and syncs were {log}")
+    check(log == "s" + "wsws" * len(STOPPED), f"writes and syncs were {log}")
 
 
 def stopped(folder):
@@ -338,6 +339,42 @@ def in_use(folder):
     check(other.returncode == 0, "a floor that was killed still holds its file")
 
 
+def changed(folder):
+    """A file that somebody else writes to, or removes, in the middle of a night: nothing more is booked."""
+    path = folder + "/changed.day"
+    for change in ["echo hello >>", "rm", ": >", "sed -i s/5/6/"]:
+        for lines, typed in [("house\t1\t1\nmember\t1\t5\t0\n", "deposit 1 7"), ("house\t1\t2\nmember\t1\t5\t0\n", "member 1 7 0")]:
+            write(path, lines)
+            terminal = Terminal(CHECKED, path)
+            terminal.prompt()
+            subprocess.run(["sh", "-c", f"{change} {path}"], check=True)
+            before = read(path) if os.path.exists(path) else None
+            terminal.type(typed)
+            said, status = terminal.close()
+            check(status == 2 and "deposited" not in said and "somebody else" in said, f"after {change} the floor says {said}, status {status}")
+            check((read(path) if os.path.exists(path) else None) == before, f"after {change} the floor still writes")
+
+
+def lost_connection(folder):
+    """The terminal goes away in the middle of a line, also where that does not end the floor at once: it ends, and the file is as it was."""
+    for hangup in [signal.SIG_DFL, signal.SIG_IGN]:
+        path = folder + "/connection.day"
+        write(path, "house\t1\t1\nmember\t1\t5\t0\n")
+        terminal = Terminal(CHECKED, path, hangup=hangup)
+        terminal.prompt()
+        os.write(terminal.screen, b"deposit 1 7\x04")  # Ctrl-D hands over what was typed so far
+        time.sleep(0.1)
+        os.close(terminal.screen)
+        deadline = time.time() + 10
+        while (done := os.waitpid(terminal.pid, os.WNOHANG)) == (0, 0) and time.time() < deadline:
+            time.sleep(0.01)
+        if done == (0, 0):
+            terminal.kill()
+            os.waitpid(terminal.pid, 0)
+        check(done != (0, 0), "a floor without a terminal does not end")
+        check(read(path) == b"house\t1\t1\nmember\t1\t5\t0\n", f"a floor without a terminal wrote {read(path)!r}")
+
+
 def million(folder):
     """999,999 lines have room for the end alone, a million for nothing."""
     path, begin = folder + "/million.day", b"house\t1\t1\nmember\t1\t5\t0\n"
@@ -362,7 +399,7 @@ def main():
         forms(folder)
         for seed in range(SEED, SEED + SEEDS):
             killed(folder, seed)
-        for test in [synced, stopped, stopped_while_mending, cannot_grow, in_use, million, lost_screen]:
+        for test in [synced, stopped, stopped_while_mending, cannot_grow, in_use, changed, lost_connection, million, lost_screen]:
             test(folder)
     print(f"{passed} passed, {failed} failed")
     sys.exit(failed > 0)
