@@ -12,7 +12,7 @@ use Rattle.rule.specs.Payment.{payerOf, amountOf}
 use Rattle.rule.specs.Queue.{total}
 use Rattle.rule.specs.Table.{leaving, staying}
 use Rattle.tables.specs.Sizes.{members}
-use Rattle.finder.specs.Limits.{mostAmount}
+use Rattle.finder.specs.Limits.{farAmount}
 use Rattle.finder.proofs.Tops.{payer-under}
 use Rattle.booking.specs.Booking.{listed}
 use Rattle.booking.specs.Steps.{closedUp, Words, Ends}
@@ -52,7 +52,7 @@ pub record Closing (n : ℕ) (p₀ l₀ p l : List ℕ) (more paid i to : ℕ) :
   pub ahead : drop i p ≡ drop i p₀
   pub kept : take to p ++ staying (listed l) (drop i (take n p₀)) ≡ staying (listed l₀) (take n p₀)
   pub gone : paid + total amountOf (leaving (listed l) (drop i (take n p₀))) ≡ total amountOf (leaving (listed l₀) (take n p₀))
-  pub most : paid ≤ mostAmount * i
+  pub most : paid ≤ farAmount * i
 
 -- the pass starts,
 pub closing-start : {more : ℕ} (n : ℕ) (p l : List ℕ) → length l ≡ members → more ≡ sum (length l) (listed l) → Closing n p l p l more 0 0 0
@@ -76,7 +76,7 @@ module _ {n : ℕ} {p₀ l₀ p l : List ℕ} {more paid i to : ℕ} (g : Words 
   seat = rw (c .members) (payer-under (getD p i 0))
 
   -- finds amounts in range,
-  pub closing-small : amountOf (getD p i 0) ≤ mostAmount
+  pub closing-small : amountOf (getD p i 0) ≤ farAmount
   closing-small = rw (same-here p p₀ i (c .ahead)) (g .small i h)
 
   -- keeps a payment that stays,

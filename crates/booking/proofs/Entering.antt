@@ -19,7 +19,7 @@ use Rattle.tables.specs.Layout.{Tables, membersIn, waitingIn, wordsIn, houseIn,
 use Rattle.tables.specs.Needs.{Near}
 use Rattle.tables.proofs.Balances.{accounts-near}
 use Rattle.tables.proofs.Houses.{holds-payers}
-use Rattle.finder.specs.Limits.{far, mostAmount, farBalance}
+use Rattle.finder.specs.Limits.{far, farAmount, farBalance}
 use Rattle.finder.specs.Positions.{moved, Steady, Entering}
 use Rattle.finder.proofs.Tops.{payer-under, payee-under}
 use Rattle.finder.proofs.Positions.{moved-at, moved-far}
@@ -110,7 +110,7 @@ pub record Underway (used : ℕ) (p : List ℕ) (xs₀ : List ℤ) (l₀ : List 
   pub each : length xs ≡ members
   pub still : more ≡ sum (length l) (listed l)
   pub left : entered xs (leaving (listed l) (drop i (take used p))) ≡ entered xs₀ (leaving (listed l₀) (take used p))
-  pub near : (k : ℕ) → k < members → far (getD xs k (pos 0)) ≤ farBalance + mostAmount * i
+  pub near : (k : ℕ) → k < members → far (getD xs k (pos 0)) ≤ farBalance + farAmount * i
   pub members : length l ≡ members
 
 -- the pass starts,

@@ -4,7 +4,7 @@ use mathlib.Core.List.{List, [], _∷_, _++_, append-assoc}
 use Prim.Native.Nat.{ℕ, _+_}
 use native.Mathlib.Omega.{arith}
 use Rattle.rule.specs.Payment.{payerOf}
-use Rattle.rule.specs.Chain.{just}
+use Rattle.rule.specs.Queue.{just}
 use Rattle.rule.specs.House.{House, Same}
 use Rattle.rule.specs.Day.{Call, deposit, submit, settle, call, Accepts, Lived, done, next, deposits, payments}
 use Rattle.rule.proofs.Same.{same-sym, same-trans, position-same, allowed-same}

@@ -13,7 +13,7 @@ use lib.ListN.{length, getD, set, length-set, length-append}
 use lib.Seq.{getD-set-same, getD-set-other, take-suc-set}
 use Rattle.rule.specs.Payment.{payerOf, word}
 use Rattle.rule.specs.House.{Same}
-use Rattle.rule.specs.Chain.{just}
+use Rattle.rule.specs.Queue.{just}
 use Rattle.rule.specs.Day.{submit, call, Accepts, onlyFor}
 use Rattle.rule.specs.Table.{queueOf}
 use Rattle.rule.proofs.Payments.{payer-word, payee-word, amount-word, flags-word}

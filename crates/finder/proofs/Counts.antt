@@ -19,19 +19,22 @@ use Rattle.rule.proofs.Table.{queue-leaving, leaving-snoc, staying-snoc}
 use Rattle.rule.proofs.Sums.{eqb-same, eqb-other}
 use Rattle.rule.proofs.Kernel.{largest-cong}
 use Rattle.rule.proofs.Cover.{covered-lawful, position-cong}
+use Rattle.tables.specs.Sizes.{members}
 use Rattle.finder.specs.Tops.{countsOf, Topped, CountsBelow}
-use Rattle.finder.specs.Resolve.{houseOf, Resolved}
+use Rattle.finder.specs.Resolve.{houseFrom, LargestFound}
 use Rattle.finder.proofs.Tops.{payer-under, queue-append, queue-own, queue-grows}
 
 module _ (pays tops : List ℕ) (m : ℕ) (h : m < length pays) where
-  below-is : ltb (length (queueOf (payerOf (getD pays m 0)) (take m pays))) (countsOf pays tops (payerOf (getD pays m 0))) ≡ ltb m (getD tops (payerOf (getD pays m 0)) 0)
+  below-is : let s = payerOf (getD pays m 0) in ltb (length (queueOf s (take m pays))) (countsOf pays tops s) ≡ ltb m (getD tops s 0)
   below-is =
       let s = payerOf (getD pays m 0) in
       let t = getD tops s 0 in
       let more : length (queueOf s (take (suc m) pays)) ≡ length (queueOf s (take m pays)) + 1 = rw (queue-own pays s m h refl, length-append) (omega arith) in
       elim (decLt m t) [
-        | yes l ↦ rw (lt-ltb m t l) (lt-ltb (length (queueOf s (take m pays))) (length (queueOf s (take t pays))) (omega (arith, more, queue-grows pays t s (suc m) l)))
-        | no l ↦ rw (le-ltb m t (omega arith)) (le-ltb (length (queueOf s (take m pays))) (length (queueOf s (take t pays))) (queue-grows pays m s t (omega arith)))
+        | yes l ↦ rw (lt-ltb m t l)
+            (lt-ltb (length (queueOf s (take m pays))) (length (queueOf s (take t pays))) (omega (arith, more, queue-grows pays t s (suc m) l)))
+        | no l ↦ rw (le-ltb m t (omega arith))
+            (le-ltb (length (queueOf s (take m pays))) (length (queueOf s (take t pays))) (queue-grows pays m s t (omega arith)))
       ]
 
   -- the payment at place m leaves if it stands below the top,
@@ -48,15 +51,15 @@ module _ (pays tops : List ℕ) (m : ℕ) (h : m < length pays) where
 
 -- the counts of what leaves the first m places
 pub record Counted (m : ℕ) (pays tops counts : List ℕ) : Type 0 where
-  pub each : length counts ≡ 64
-  pub gone : (k : ℕ) → k < 64 → getD counts k 0 ≡ length (queueOf k (leaving (countsOf pays tops) (take m pays)))
-  pub few : (k : ℕ) → k < 64 → getD counts k 0 ≤ m
+  pub each : length counts ≡ members
+  pub gone : (k : ℕ) → k < members → getD counts k 0 ≡ length (queueOf k (leaving (countsOf pays tops) (take m pays)))
+  pub few : (k : ℕ) → k < members → getD counts k 0 ≤ m
 
-pub counted-start : {pays tops : List ℕ} → Counted 0 pays tops (replicate 64 0)
+pub counted-start : {pays tops : List ℕ} → Counted 0 pays tops (replicate members 0)
 counted-start = record {
-  each = length-replicate {A = ℕ} 64 0;
-  gone = λ k h. getD-replicate {A = ℕ} 64 k 0 0 h;
-  few = λ k h. rw (getD-replicate {A = ℕ} 64 k 0 0 h) (omega arith);
+  each = length-replicate {A = ℕ} members 0;
+  gone = λ k h. getD-replicate {A = ℕ} members k 0 0 h;
+  few = λ k h. rw (getD-replicate {A = ℕ} members k 0 0 h) (omega arith);
 }
 
 module _ {pays tops counts : List ℕ} {m : ℕ} (h : m < length pays) (d : Counted m pays tops counts) where
@@ -71,8 +74,16 @@ module _ {pays tops counts : List ℕ} {m : ℕ} (h : m < length pays) (d : Coun
       rw same (record {
         each = simp length-set (d .each);
         gone = λ k l. elim (ℕ-discrete k s) [
-          | yes q ↦ rw (q, getD-set-same counts s v 0 long, leaves-next pays tops m h, e, queue-append, length-append, eqb-same {i = s} refl) (omega (arith, d .gone s (payer-under w)))
-          | no q ↦ rw (getD-set-other counts s k v 0 q, leaves-next pays tops m h, e, queue-append, length-append, eqb-other {i = s} {j = k} (λ r. q (sym r))) (omega (arith, d .gone k l))
+          | yes q ↦ rw (q, getD-set-same counts s v 0 long, leaves-next pays tops m h, e, queue-append, length-append, eqb-same {i = s} refl)
+              (omega (arith, d .gone s (payer-under w)))
+          | no q ↦ rw (
+            getD-set-other counts s k v 0 q,
+            leaves-next pays tops m h,
+            e,
+            queue-append,
+            length-append,
+            eqb-other {i = s} {j = k} (λ r. q (sym r)),
+          ) (omega (arith, d .gone k l))
         ];
         few = λ k l. elim (ℕ-discrete k s) [
           | yes q ↦ rw (q, getD-set-same counts s v 0 long) (omega (arith, d .few s (payer-under w)))
@@ -95,13 +106,16 @@ counted-end {pays} {tops} {counts} {used} t d = record {
 }
 
 -- so the list of counts is the largest set where the tops are,
-pub counted-largest : {n used : ℕ} {pays : List ℕ} {bs lines ys : List ℤ} {tops counts : List ℕ} → n ≤ 64 → Resolved n used pays bs lines ys tops → CountsBelow pays tops counts
-    → LargestSet n (houseOf used pays bs lines) (λ i. getD counts i 0)
-counted-largest {n} {used} {pays} {bs} {lines} {counts = counts} members r d =
-    largest-cong (covered-lawful n (houseOf used pays bs lines)) (λ i. getD counts i 0) (λ i h. sym (d .below i (omega arith))) (r .largest)
+pub counted-largest : {n used : ℕ} {pays : List ℕ} {bs lines ys : List ℤ} {tops counts : List ℕ} → n ≤ members
+    → LargestFound n used pays bs lines ys tops → CountsBelow pays tops counts
+    → LargestSet n (houseFrom used pays bs lines) (λ i. getD counts i 0)
+counted-largest {n} {used} {pays} {bs} {lines} {counts = counts} few r d =
+    largest-cong (covered-lawful n (houseFrom used pays bs lines)) (λ i. getD counts i 0) (λ i h. sym (d .below i (omega arith))) (r .largest)
 
 -- and the positions are where it takes the balances
-pub counted-positions : {n used : ℕ} {pays : List ℕ} {bs lines ys : List ℤ} {tops counts : List ℕ} → n ≤ 64 → Resolved n used pays bs lines ys tops → CountsBelow pays tops counts
-    → (i : ℕ) → i < 64 → getD ys i (pos 0) ≡ position n (houseOf used pays bs lines) (λ j. getD counts j 0) i
-counted-positions {n} {used} {pays} {bs} {lines} {tops} {counts} members r d i h =
-    r .booked i h ∙ position-cong n (houseOf used pays bs lines) (countsOf pays tops) (λ j. getD counts j 0) i (sym (d .below i h)) (λ j k. sym (d .below j (omega arith)))
+pub counted-positions : {n used : ℕ} {pays : List ℕ} {bs lines ys : List ℤ} {tops counts : List ℕ} → n ≤ members
+    → LargestFound n used pays bs lines ys tops → CountsBelow pays tops counts
+    → (i : ℕ) → i < members → getD ys i (pos 0) ≡ position n (houseFrom used pays bs lines) (λ j. getD counts j 0) i
+counted-positions {n} {used} {pays} {bs} {lines} {tops} {counts} few r d i h =
+    r .booked i h ∙ position-cong n (houseFrom used pays bs lines) (countsOf pays tops) (λ j. getD counts j 0) i (sym (d .below i h))
+    (λ j k. sym (d .below j (omega arith)))

@@ -8,12 +8,18 @@ use native.Mathlib.Omega.{arith}
 use lib.ListN.{length, getD, set, length-set}
 use lib.Seq.{getD-set-same, getD-set-other}
 use Rattle.rule.specs.Payment.{payerOf}
+use Rattle.tables.specs.Sizes.{members}
 use Rattle.finder.specs.Tops.{Behind, NoneIn, AllIn, Linked}
 use Rattle.finder.proofs.Tops.{payer-under, queue-other}
 
 -- what holds of the first places holds of fewer
 pub linked-below : {used t : ℕ} {pays befores : List ℕ} → Linked used pays befores → t ≤ used → Linked t pays befores
-linked-below l h = record { each = omega (arith, l .each); back = λ m k. l .back m (omega arith); behind = λ m k. l .behind m (omega arith); same = λ m k. l .same m (omega arith) }
+linked-below l h = record {
+  each = omega (arith, l .each);
+  back = λ m k. l .back m (omega arith);
+  behind = λ m k. l .behind m (omega arith);
+  same = λ m k. l .same m (omega arith);
+}
 
 -- ---- no payment is in
 
@@ -69,7 +75,7 @@ module _ {m : ℕ} {pays ts : List ℕ} (h : m < length pays) (a : AllIn m pays 
   linked-next {befores} long l =
       let s = payerOf (getD pays m 0) in
       let t = getD ts s 0 in
-      let inside : s < 64 = payer-under (getD pays m 0) in
+      let inside : s < members = payer-under (getD pays m 0) in
       record {
         each = simp length-set (omega arith);
         back = λ k u. elim (ℕ-discrete k m) [

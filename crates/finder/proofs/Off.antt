@@ -10,7 +10,8 @@ use lib.IntN.{ℤ, pos, _+ℤ_, _-ℤ_}
 use lib.Signed.{ltZ}
 use lib.ListN.{length, getD, take, length-set}
 use lib.Seq.{getD-set-same, getD-set-other}
-use Rattle.rule.specs.Kernel.{Counts, put, lower, Around}
+use Rattle.rule.specs.Kernel.{Counts, put, lower}
+use Rattle.rule.specs.Workings.Law.{Around}
 use Rattle.rule.specs.Payment.{payeeOf, amountOf, amountTo}
 use Rattle.rule.specs.House.{House, waits, position, leeway, Covered}
 use Rattle.rule.specs.Table.{queueOf}
@@ -19,7 +20,8 @@ use Rattle.rule.proofs.Sums.{sum-strict}
 use Rattle.rule.proofs.Kernel.{take-off}
 use Rattle.rule.proofs.Cover.{covered-lawful}
 use Rattle.rule.proofs.Find.{put-all, around-lower}
-use Rattle.finder.specs.Limits.{mostAmount}
+use Rattle.tables.specs.Sizes.{members}
+use Rattle.finder.specs.Limits.{farAmount}
 use Rattle.finder.specs.Tops.{countsOf, height, Linked}
 use Rattle.finder.specs.Finder.{Ranges, Stood, Ready, Short, Off, TakenOff}
 use Rattle.finder.proofs.Tops.{payee-under, one-less, last-stands, top-above}
@@ -34,14 +36,14 @@ module _ {n used : ℕ} {H : House} {pays : List ℕ} {xs lines : List ℤ} {ts 
   short-uncovered t c =
       let z = position n H (countsOf pays ts) i in
       let l = leeway H i in
-      let u : ltZ z (pos 0 -ℤ l) ≡ true = rw (st .stand i (omega (arith, st .members)), st .line i h) at t in
+      let u : ltZ z (pos 0 -ℤ l) ≡ true = rw (st .stand i (omega (arith, st .few)), st .line i h) at t in
       omega (ints, nonneg-is (z +ℤ l) (c .cover), plus z l, minus (pos 0) l)
 
   pub else-covered : Short xs lines i ≡ false → Covered n H i (countsOf pays ts)
   else-covered t =
       let z = position n H (countsOf pays ts) i in
       let l = leeway H i in
-      let u : ltZ z (pos 0 -ℤ l) ≡ false = rw (st .stand i (omega (arith, st .members)), st .line i h) at t in
+      let u : ltZ z (pos 0 -ℤ l) ≡ false = rw (st .stand i (omega (arith, st .few)), st .line i h) at t in
       record { cover = nonneg-of (z +ℤ l) (omega (ints, plus z l, minus (pos 0) l)) }
 
   some-in : Short xs lines i ≡ true → 0 < countsOf pays ts i
@@ -51,7 +53,7 @@ module _ {n used : ℕ} {H : House} {pays : List ℕ} {xs lines : List ℤ} {ts 
 pub off-ready : {n used : ℕ} {pays befores : List ℕ} {xs lines : List ℤ} {ts : List ℕ} {i : ℕ}
     → Ready n used pays xs lines ts → Linked used pays befores → i < n → Short xs lines i ≡ true → Off pays befores xs ts i
 off-ready {pays} {ts} {i} r k h t =
-    let inside : i < 64 = omega (arith, r .stood .members) in
+    let inside : i < members = omega (arith, r .stood .few) in
     let top = r .ranges .topped in
     record {
       member = inside;
@@ -71,12 +73,15 @@ counts-path e = λ k i. e i k
 
 counts-off : {p : ℕ} {pays : List ℕ} {s : ℕ} {xs ys : List ℤ} {ts us : List ℕ} (t : TakenOff p pays s xs ys ts us) → s < length ts
     → countsOf pays us ≡ put (countsOf pays ts) s (length (queueOf s (take (t .place) pays)))
-counts-off {pays} {s} {ts} {us} t h = counts-path (λ i. put-all (λ m x. countsOf pays us m ≡ x) (countsOf pays ts) s (length (queueOf s (take (t .place) pays))) i
+counts-off {pays} {s} {ts} {us} t h = counts-path (λ i.
+    put-all (λ m x. countsOf pays us m ≡ x) (countsOf pays ts) s (length (queueOf s (take (t .place) pays))) i
     (rw (t .tops, getD-set-same ts s (t .top) 0 h, t .same))
     (λ ne. rw (t .tops, getD-set-other ts s i (t .top) 0 ne)))
 
-module _ {used : ℕ} {pays : List ℕ} {xs ys lines : List ℤ} {ts us : List ℕ} {s p : ℕ} (r : Ranges used pays xs lines ts) (inside : s < 64) (t : TakenOff p pays s xs ys ts us) where
-  payment-is : {n : ℕ} {H : House} → Stood n used H pays xs lines ts → s < n → getD (H .queue s) (length (queueOf s (take (t .place) pays))) 0 ≡ getD pays (t .place) 0
+module _ {used : ℕ} {pays : List ℕ} {xs ys lines : List ℤ} {ts us : List ℕ} {s p : ℕ} (r : Ranges used pays xs lines ts) (inside : s < members)
+    (t : TakenOff p pays s xs ys ts us) where
+  payment-is : {n : ℕ} {H : House} → Stood n used H pays xs lines ts → s < n
+      → getD (H .queue s) (length (queueOf s (take (t .place) pays))) 0 ≡ getD pays (t .place) 0
   payment-is st h = rw (st .queues s h) (last-stands (t .last) used (r .topped .within s inside))
 
   around-off : {n : ℕ} {H : House} → Stood n used H pays xs lines ts → s < n → Short xs lines s ≡ true → Around n (Covered n H) (waits H) (countsOf pays us)
@@ -85,7 +90,7 @@ module _ {used : ℕ} {pays : List ℕ} {xs ys lines : List ℤ} {ts us : List �
       let e : countsOf pays ts s - 1 ≡ length (queueOf s (take (t .place) pays)) = omega (arith, one-less (t .last)) in
       rw (counts-off t (rw (r .topped .each) inside), ← e) (around-lower (covered-lawful n H) s (st .around) h (short-uncovered st s h short))
 
-  stand-off : {n : ℕ} {H : House} → Stood n used H pays xs lines ts → s < n → (i : ℕ) → i < 64 → getD ys i (pos 0) ≡ position n H (countsOf pays us) i
+  stand-off : {n : ℕ} {H : House} → Stood n used H pays xs lines ts → s < n → (i : ℕ) → i < members → getD ys i (pos 0) ≡ position n H (countsOf pays us) i
   stand-off {n} {H} st h i k =
       let w = getD pays (t .place) 0 in
       let q = length (queueOf s (take (t .place) pays)) in
@@ -99,7 +104,7 @@ module _ {used : ℕ} {pays : List ℕ} {xs ys lines : List ℤ} {ts us : List �
   -- every house that stood so still does,
   pub stood-off : {n : ℕ} {H : House} → Stood n used H pays xs lines ts → s < n → Short xs lines s ≡ true → Stood n used H pays ys lines us
   stood-off st h short = record {
-    members = st .members;
+    few = st .few;
     some = st .some;
     allowed = st .allowed;
     queues = st .queues;
@@ -117,7 +122,7 @@ module _ {used : ℕ} {pays : List ℕ} {xs ys lines : List ℤ} {ts us : List �
   -- the sum of the tops falls,
   pub height-off : height us < height ts
   unfolding height
-  height-off = sum-strict 64 (λ i. getD us i 0) (λ i. getD ts i 0) s (λ i k. lowered i) inside
+  height-off = sum-strict members (λ i. getD us i 0) (λ i. getD ts i 0) s (λ i k. lowered i) inside
       (rw (t .tops, getD-set-same ts s (t .top) 0 (rw (r .topped .each) inside)) (omega (arith, t .low, t .last .under)))
 
   -- and as it falls by one or more, no position can leave its range
@@ -137,7 +142,7 @@ module _ {used : ℕ} {pays : List ℕ} {xs ys lines : List ℤ} {ts us : List �
     small = r .small;
     near = λ i h.
         let w = getD pays (t .place) 0 in
-        let fits : amountOf w ≤ mostAmount = r .small (t .place) (omega (arith, t .last .under, r .topped .within s inside)) in
+        let fits : amountOf w ≤ farAmount = r .small (t .place) (omega (arith, t .last .under, r .topped .within s inside)) in
         rw (t .positions) (omega (
           arith,
           moved-far xs (payeeOf w) s (amountOf w) i (rw (r .each-position) (payee-under w)) (rw (r .each-position) inside),

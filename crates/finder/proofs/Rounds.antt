@@ -68,7 +68,8 @@ module _ {again : Bool} {n used : ℕ} {pays : List ℕ} {lines xs ys : List ℤ
   search-end e = record { ranges = g .ranges; keeps = g .keeps; none = subst (λ (x : Bool). Ended x n ys lines) e (g .end) }
 
 -- a round that took something off lowered the sum of the tops, and any other is the last
-pub search-falls : {b : Bool} {n used : ℕ} {pays : List ℕ} {lines ys zs : List ℤ} {us vs : List ℕ} → Rounded b n used n pays lines ys zs us vs → height vs + cond b 1 0 < height us + 1
+pub search-falls : {b : Bool} {n used : ℕ} {pays : List ℕ} {lines ys zs : List ℤ} {us vs : List ℕ} → Rounded b n used n pays lines ys zs us vs
+    → height vs + cond b 1 0 < height us + 1
 search-falls {b} {n} {lines} {zs} {us} {vs} d = go b (d .went) (d .low)
   where
     go : (b : Bool) → Went b n zs lines us vs → height vs ≤ height us → height vs + cond b 1 0 < height us + 1

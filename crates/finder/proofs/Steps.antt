@@ -5,6 +5,7 @@ use mathlib.Core.List.{List}
 use Prim.Native.Nat.{ℕ, _≤_, _<_}
 use native.Mathlib.Omega.{arith}
 use lib.IntN.{ℤ}
+use Rattle.tables.specs.Sizes.{members}
 use Rattle.finder.specs.Tops.{height}
 use Rattle.finder.specs.Finder.{Ranges, Ready, Keeps, Short, TakenOff, Fell, Stepped}
 use Rattle.finder.proofs.Off.{stood-off, height-off, ranges-off}
@@ -21,13 +22,15 @@ pub record Stepping (any : Bool) (n used i m due : ℕ) (pays : List ℕ) (lines
   pub low : height us ≤ height ts
   pub way : Way any i m due xs ys ts us
 
-pub step-start : {n used i : ℕ} {pays : List ℕ} {lines xs : List ℤ} {ts : List ℕ} → Ready n used pays xs lines ts → Stepping false n used i i 0 pays lines xs xs ts ts
+pub step-start : {n used i : ℕ} {pays : List ℕ} {lines xs : List ℤ} {ts : List ℕ} → Ready n used pays xs lines ts
+    → Stepping false n used i i 0 pays lines xs xs ts ts
 step-start d = record { ranges = d .ranges; keeps = λ H st. st; low = omega arith; way = (refl, refl, refl, refl) }
 
 module _ {any : Bool} {n used i m due : ℕ} {pays : List ℕ} {lines xs ys : List ℤ} {ts us : List ℕ}
     (g : Stepping any n used i m due pays lines xs ys ts us) where
   -- a short member loses its last payment,
-  pub step-off : {p d : ℕ} {zs : List ℤ} {vs : List ℕ} → m < 64 → m < n → Short ys lines m ≡ true → TakenOff p pays m ys zs us vs → Stepping true n used i m d pays lines xs zs ts vs
+  pub step-off : {p d : ℕ} {zs : List ℤ} {vs : List ℕ} → m < members → m < n → Short ys lines m ≡ true → TakenOff p pays m ys zs us vs
+      → Stepping true n used i m d pays lines xs zs ts vs
   step-off {vs} inside h short t =
       let falls : height vs < height us = height-off (g .ranges) inside t in
       record {

@@ -11,14 +11,15 @@ use lib.Seq.{take-suc, take-add}
 use Rattle.rule.specs.Payment.{payerOf, payeeOf}
 use Rattle.rule.specs.Table.{queueOf}
 use Rattle.rule.proofs.Sums.{eqb-same, eqb-other}
+use Rattle.tables.specs.Sizes.{members}
 use Rattle.finder.specs.Tops.{Behind, LastAt}
 
 -- payer and payee are among 64
-pub payer-under : (w : ℕ) → payerOf w < 64
+pub payer-under : (w : ℕ) → payerOf w < members
 unfolding payerOf
 payer-under w = omega arith
 
-pub payee-under : (w : ℕ) → payeeOf w < 64
+pub payee-under : (w : ℕ) → payeeOf w < members
 unfolding payeeOf
 payee-under w = omega arith
 
@@ -57,7 +58,8 @@ module _ {pays : List ℕ} {top i place : ℕ} (l : LastAt pays top i place) whe
 
   -- and in the queue it stands behind those
   pub last-stands : (used : ℕ) → top ≤ used → getD (queueOf i (take used pays)) (length (queueOf i (take place pays))) 0 ≡ getD pays place 0
-  last-stands used h = rw (queue-head pays i top used h, l .last) (go (queueOf i (take place pays)) (getD pays place 0) (queueOf i (take (used - top) (drop top pays))))
+  last-stands used h = rw (queue-head pays i top used h, l .last)
+      (go (queueOf i (take place pays)) (getD pays place 0) (queueOf i (take (used - top) (drop top pays))))
     where
       go : (xs : List ℕ) (w : ℕ) (ys : List ℕ) → getD ((xs ++ (w ∷ [])) ++ ys) (length xs) 0 ≡ w
       go [] w ys = refl

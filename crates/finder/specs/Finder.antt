@@ -1,4 +1,5 @@
 -- What the finder of the largest set asks, keeps and promises. The positions are the balances with the payments below the tops booked.
+-- There are n members and i is one, `used` payments wait; positions xs became ys, and tops ts became us; H is a house.
 use mathlib.Core.Path.{_≡_}
 use mathlib.Core.Bool.{Bool, true, false}
 use mathlib.Core.List.{List}
@@ -6,11 +7,13 @@ use Prim.Native.Nat.{ℕ, _+_, _*_, _≤_, _<_}
 use lib.IntN.{ℤ, pos, _-ℤ_}
 use lib.Signed.{ltZ}
 use lib.ListN.{length, getD, set, take}
-use Rattle.rule.specs.Kernel.{Counts, Around}
+use Rattle.rule.specs.Kernel.{Counts}
+use Rattle.rule.specs.Workings.Law.{Around}
 use Rattle.rule.specs.Payment.{payeeOf, amountOf}
 use Rattle.rule.specs.House.{House, waits, position, leeway, Covered, AllowedSet}
 use Rattle.rule.specs.Table.{queueOf}
-use Rattle.finder.specs.Limits.{far, mostAmount, farPosition}
+use Rattle.tables.specs.Sizes.{members}
+use Rattle.finder.specs.Limits.{far, farAmount, farPosition}
 use Rattle.finder.specs.Tops.{countsOf, height, Behind, Topped, Linked, LastAt}
 use Rattle.finder.specs.Positions.{moved, Small, Steady}
 
@@ -19,21 +22,21 @@ use Rattle.finder.specs.Positions.{moved, Small, Steady}
 -- the lists have their sizes, each top is just behind a payment of its member, and no position can leave its range before every top is 0
 pub record Ranges (used : ℕ) (pays : List ℕ) (positions lines : List ℤ) (tops : List ℕ) : Type 0 where
   pub topped : Topped used pays tops
-  pub behind : (i : ℕ) → i < 64 → Behind pays i (getD tops i 0)
-  pub each-position : length positions ≡ 64
-  pub each-line : length lines ≡ 64
+  pub behind : (i : ℕ) → i < members → Behind pays i (getD tops i 0)
+  pub each-position : length positions ≡ members
+  pub each-line : length lines ≡ members
   pub small : Small used pays
-  pub near : (i : ℕ) → i < 64 → far (getD positions i (pos 0)) + mostAmount * height tops ≤ farPosition
+  pub near : (i : ℕ) → i < members → far (getD positions i (pos 0)) + farAmount * height tops ≤ farPosition
 
 -- the house H of n members has some allowed set, and these payments and lines; the positions are its own if what is below the tops is
 -- booked; and every allowed set lies inside that
 pub record Stood (n used : ℕ) (H : House) (pays : List ℕ) (positions lines : List ℤ) (tops : List ℕ) : Type 0 where
-  pub members : n ≤ 64
+  pub few : n ≤ members
   pub some : Counts
   pub allowed : AllowedSet n H some
   pub queues : (i : ℕ) → i < n → H .queue i ≡ queueOf i (take used pays)
   pub line : (i : ℕ) → i < n → getD lines i (pos 0) ≡ leeway H i
-  pub stand : (i : ℕ) → i < 64 → getD positions i (pos 0) ≡ position n H (countsOf pays tops) i
+  pub stand : (i : ℕ) → i < members → getD positions i (pos 0) ≡ position n H (countsOf pays tops) i
   pub around : Around n (Covered n H) (waits H) (countsOf pays tops)
 
 -- some house stands so
@@ -42,7 +45,7 @@ pub record Ready (n used : ℕ) (pays : List ℕ) (positions lines : List ℤ) (
   pub house : House
   pub stood : Stood n used house pays positions lines tops
 
--- ---- what is promised: positions xs became ys, and tops ts became us
+-- ---- what is promised
 
 -- whichever house stood so before stands so after
 abbrev pub Keeps : ℕ → ℕ → List ℕ → List ℤ → List ℤ → List ℕ → List ℤ → List ℕ → Type 0
@@ -66,9 +69,9 @@ pub record FoundSet (n used : ℕ) (pays : List ℕ) (lines xs ys : List ℤ) (t
 
 -- member i has a payment in, and it can be taken off
 pub record Off (pays befores : List ℕ) (xs : List ℤ) (ts : List ℕ) (i : ℕ) : Type 0 where
-  pub member : i < 64
+  pub member : i < members
   pub steady : Steady xs
-  pub each : length ts ≡ 64
+  pub each : length ts ≡ members
   pub places : getD ts i 0 ≤ length pays
   pub some : 0 < getD ts i 0
   pub behind : Behind pays i (getD ts i 0)

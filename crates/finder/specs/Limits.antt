@@ -1,4 +1,5 @@
--- How far from zero amounts, balances and positions may be, so that no position leaves the range of an i64. Money is in cents.
+-- How far from zero amounts, balances and positions may be, so that no position leaves the range of an i64. Money is in cents. (These ranges are
+-- the finder's own, and wider than the house's.)
 use Prim.Native.Nat.{ℕ, _+_}
 use lib.IntN.{ℤ}
 use Rattle.rule.specs.Ints.{up, down}
@@ -7,18 +8,14 @@ use Rattle.rule.specs.Ints.{up, down}
 abbrev pub far : ℤ → ℕ
 far z = up z + down z
 
--- the largest amount of a payment: 10^13
-abbrev pub mostAmount : ℕ
-mostAmount = 10000000000000
-
--- how many payments can wait
-abbrev pub mostPlaces : ℕ
-mostPlaces = 2048
+-- how large an amount may be: 10^13
+abbrev pub farAmount : ℕ
+farAmount = 10_000_000_000_000
 
 -- how far from zero a balance may be: 2 * 10^15
 abbrev pub farBalance : ℕ
-farBalance = 2000000000000000
+farBalance = 2_000_000_000_000_000
 
 -- how far from zero a position may be: 9 * 10^18
 abbrev pub farPosition : ℕ
-farPosition = 9000000000000000000
+farPosition = 9_000_000_000_000_000_000

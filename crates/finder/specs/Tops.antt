@@ -1,5 +1,5 @@
 -- Which payments are in, told by one place for each of 64 members: of the payments at the first `used` places of the table, those of a
--- member that stand below its top.
+-- member that stand below its top. i is a member, m a place.
 use mathlib.Core.Path.{_≡_}
 use mathlib.Core.List.{List, [], _∷_, _++_}
 use Prim.Native.Nat.{ℕ, _-_, _≤_, _<_}
@@ -7,6 +7,7 @@ use lib.ListN.{length, getD, take}
 use Rattle.rule.specs.Kernel.{Counts, sum}
 use Rattle.rule.specs.Payment.{payerOf}
 use Rattle.rule.specs.Table.{queueOf}
+use Rattle.tables.specs.Sizes.{members}
 
 -- how many payments of each member stand below its top
 abbrev pub countsOf : List ℕ → List ℕ → Counts
@@ -14,7 +15,7 @@ countsOf pays tops i = length (queueOf i (take (getD tops i 0) pays))
 
 -- the sum of the tops
 unfoldable pub height : List ℕ → ℕ
-height tops = sum 64 (λ i. getD tops i 0)
+height tops = sum members (λ i. getD tops i 0)
 
 -- the top of member i is 0, or just behind one of its payments
 abbrev pub Behind : List ℕ → ℕ → ℕ → Type 0
@@ -23,19 +24,19 @@ Behind pays i top = 0 < top → payerOf (getD pays (top - 1) 0) ≡ i
 -- each member has a top, at most at the end of the used places
 pub record Topped (used : ℕ) (pays tops : List ℕ) : Type 0 where
   pub places : used ≤ length pays
-  pub each : length tops ≡ 64
-  pub within : (i : ℕ) → i < 64 → getD tops i 0 ≤ used
+  pub each : length tops ≡ members
+  pub within : (i : ℕ) → i < members → getD tops i 0 ≤ used
 
 -- no payment of any member is in
 pub record NoneIn (tops : List ℕ) : Type 0 where
-  pub each : length tops ≡ 64
-  pub none : (i : ℕ) → i < 64 → getD tops i 0 ≡ 0
+  pub each : length tops ≡ members
+  pub none : (i : ℕ) → i < members → getD tops i 0 ≡ 0
 
 -- every payment of every member is in, and each top is just behind the member's last one
 pub record AllIn (used : ℕ) (pays tops : List ℕ) : Type 0 where
   pub topped : Topped used pays tops
-  pub behind : (i : ℕ) → i < 64 → Behind pays i (getD tops i 0)
-  pub whole : (i : ℕ) → i < 64 → queueOf i (take (getD tops i 0) pays) ≡ queueOf i (take used pays)
+  pub behind : (i : ℕ) → i < members → Behind pays i (getD tops i 0)
+  pub whole : (i : ℕ) → i < members → queueOf i (take (getD tops i 0) pays) ≡ queueOf i (take used pays)
 
 -- the list tells of each payment a place at or below its own: just behind the payment of the same payer before it, or 0 where there is none
 pub record Linked (used : ℕ) (pays befores : List ℕ) : Type 0 where
@@ -53,5 +54,5 @@ pub record LastAt (pays : List ℕ) (top i place : ℕ) : Type 0 where
 
 -- the list holds, for each member, how many of its payments stand below its top
 pub record CountsBelow (pays tops counts : List ℕ) : Type 0 where
-  pub each : length counts ≡ 64
-  pub below : (i : ℕ) → i < 64 → getD counts i 0 ≡ countsOf pays tops i
+  pub each : length counts ≡ members
+  pub below : (i : ℕ) → i < members → getD counts i 0 ≡ countsOf pays tops i

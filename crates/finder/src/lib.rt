@@ -1,17 +1,19 @@
 // The finder of the largest allowed set. Everything is in at first; round by round the last payment of each short member is taken off,
 // and of whoever is short then, until none is. Which payments are in is told by the tops: those of a member that stand below its top.
 // A top is 0 or just behind a payment of its member, and the befores lead from each payment to just behind the same payer's before it.
+use tables::House;
 ghost use mathlib.Core.Path.{_≡_};
 ghost use Prim.Native.Nat.{_+_, _<_, _≤_};
 ghost use lib.IntN.{pos, _-ℤ_};
 ghost use lib.Signed.{_≤ℤ_, ltZ};
 ghost use lib.ListN.{length, getD};
 ghost use Rattle.rule.specs.Payment.{payerOf, payeeOf, amountOf};
-ghost use Rattle.finder.specs.Limits.{far, mostAmount, mostPlaces, farPosition};
+ghost use Rattle.tables.specs.Sizes.{members, places};
+ghost use Rattle.finder.specs.Limits.{far, farAmount, farPosition};
 ghost use Rattle.finder.specs.Tops.{Topped, NoneIn, AllIn, Linked, CountsBelow};
 ghost use Rattle.finder.specs.Positions.{added, moved, Steady, Entering, Entered};
 ghost use Rattle.finder.specs.Finder.{Ready, TakenOff, Off, Stepped, Rounded, FoundSet};
-ghost use Rattle.finder.specs.Resolve.{Sits, Resolved};
+ghost use Rattle.finder.specs.Resolve.{Sits, LargestFound};
 
 // Finds the largest set: the payments below the tops. The positions hold the balances before, and then the balances as they stand
 // once that set is booked.
@@ -24,9 +26,9 @@ pub fn resolve<'a>(
     count: usize,
 )
     requires { ⌜ Sits count used (now pays) (now positions) (now lines) (now tops) ⌝ }
-    ensures { λ _. ⌜ Resolved count used (now (pays .entry)) (now (positions .entry)) (now (lines .entry)) (now (positions .exit)) (now (tops .exit)) ⌝ }
+    ensures { λ _. ⌜ LargestFound count used (now (pays .entry)) (now (positions .entry)) (now (lines .entry)) (now (positions .exit)) (now (tops .exit)) ⌝ }
 {
-    let mut befores = [0u16; 2048];
+    let mut befores = [0u16; House::PLACES];
     enter_all(pays, used, positions);
     none_in(tops);
     link_all(pays, used, tops, &mut befores);
@@ -54,12 +56,12 @@ pub fn find<'a>(
 }
 
 // How many payments of each member stand below its top.
-pub fn count_below<'a>(pays: &'a [u64], used: usize, tops: &'a [usize]) -> [u16; 64]
+pub fn count_below<'a>(pays: &'a [u64], used: usize, tops: &'a [usize]) -> [u16; House::MEMBERS]
     requires { ⌜ Topped used (now pays) (now tops) ⌝ }
-    requires { ⌜ used ≤ mostPlaces ⌝ }
+    requires { ⌜ used ≤ places ⌝ }
     ensures { λ r. ⌜ CountsBelow (now (pays .entry)) (now (tops .entry)) r ⌝ }
 {
-    let mut counts = [0u16; 64];
+    let mut counts = [0u16; House::MEMBERS];
     let mut m = 0;
     while m < used {
         let w = pays[m];
@@ -183,7 +185,7 @@ fn enter_all(pays: &[u64], used: usize, positions: &mut [i64])
 // Enters one payment: its amount goes from the payer to the payee.
 pub fn enter(positions: &mut [i64], w: u64)
     requires { ⌜ Steady (now positions) ⌝ }
-    requires { ⌜ amountOf w ≤ mostAmount ⌝ }
+    requires { ⌜ amountOf w ≤ farAmount ⌝ }
     ensures { λ _. ⌜ now (positions .exit) ≡ moved (now (positions .entry)) (payerOf w) (payeeOf w) (amountOf w) ⌝ }
 {
     let payer = rule::payer_of(w);
@@ -195,7 +197,7 @@ pub fn enter(positions: &mut [i64], w: u64)
 // The amount goes from one member's position to another's.
 fn transfer(positions: &mut [i64], giver: usize, taker: usize, amount: u64)
     requires { ⌜ Steady (now positions) ⌝ }
-    requires { ⌜ (giver < 64) × (taker < 64) × (amount ≤ mostAmount) ⌝ }
+    requires { ⌜ (giver < members) × (taker < members) × (amount ≤ farAmount) ⌝ }
     ensures { λ _. ⌜ now (positions .exit) ≡ moved (now (positions .entry)) giver taker amount ⌝ }
 {
     let by = amount as i64;
@@ -206,8 +208,8 @@ fn transfer(positions: &mut [i64], giver: usize, taker: usize, amount: u64)
 // One position changes by an amount.
 fn add(positions: &mut [i64], member: usize, by: i64)
     requires { do ⌜ member < (← ⟦positions.len()⟧) ⌝ }
-    requires { ⌜ far by ≤ mostAmount ⌝ }
-    requires { ⌜ far (getD (now positions) member (pos 0)) ≤ farPosition + mostAmount ⌝ }
+    requires { ⌜ far by ≤ farAmount ⌝ }
+    requires { ⌜ far (getD (now positions) member (pos 0)) ≤ farPosition + farAmount ⌝ }
     ensures { λ _. ⌜ now (positions .exit) ≡ added (now (positions .entry)) member by ⌝ }
 {
     positions[member] = positions[member] + by;
@@ -215,11 +217,11 @@ fn add(positions: &mut [i64], member: usize, by: i64)
 
 // No payment of any member is in.
 fn none_in(tops: &mut [usize])
-    requires { ⌜ length (now tops) ≡ 64 ⌝ }
+    requires { ⌜ length (now tops) ≡ members ⌝ }
     ensures { λ _. ⌜ NoneIn (now (tops .exit)) ⌝ }
 {
     let mut i = 0;
-    while i < 64 {
+    while i < House::MEMBERS {
         tops[i] = 0;
         i += 1;
     }
@@ -229,7 +231,7 @@ fn none_in(tops: &mut [usize])
 // befores.
 fn link_all(pays: &[u64], used: usize, tops: &mut [usize], befores: &mut [u16])
     requires { ⌜ NoneIn (now tops) ⌝ }
-    requires { ⌜ (used ≤ length (now pays)) × (used ≤ length (now befores)) × (used ≤ mostPlaces) ⌝ }
+    requires { ⌜ (used ≤ length (now pays)) × (used ≤ length (now befores)) × (used ≤ places) ⌝ }
     ensures { λ _. ⌜ AllIn used (now (pays .entry)) (now (tops .exit)) ⌝ }
     ensures { λ _. ⌜ Linked used (now (pays .entry)) (now (befores .exit)) ⌝ }
 {

@@ -1,13 +1,13 @@
 -- What a resolution does: the tables hold a state again, the rule's house with the largest set booked, and the answer says what the rule says.
-use mathlib.Core.Path.{_≡_, refl, sym, ap, _∙_}
-use Prim.Native.Nat.{ℕ, _-_, _≤_, _<_}
+use mathlib.Core.Path.{_≡_, sym, ap, _∙_}
+use Prim.Native.Nat.{ℕ, _-_, _<_}
 use native.Mathlib.Decide.{decLt}
 use native.Mathlib.Omega.{arith}
 use lib.Count.{ones}
 use lib.Dec.{ltb}
 use lib.ListN.{length, length-drop, List·getD-eq-default}
 use borrow.Author.Tests.{lt-ltb, le-ltb}
-use Rattle.rule.specs.House.{waits, booked, LargestSet, Same}
+use Rattle.rule.specs.House.{waits, LargestSet}
 use Rattle.rule.specs.Verdict.{verdict, Says}
 use Rattle.rule.specs.Resolution.{resolution}
 use Rattle.rule.proofs.Lists.{length-listing, getD-listing}
@@ -60,4 +60,5 @@ module _ {T : Tables} (h : Holds T) where
   pub resolve-left : (i : ℕ) → i < membersIn T → stillWaits (houseIn T) (listed (largestIn T)) i ≡ ltb 0 (waits (houseIn (bookedIn T (listed (largestIn T)))) i)
   resolve-left i l =
       less-left (listed (largestIn T) i) (waits (houseIn T) i)
-      ∙ ap (ltb 0) (sym (length-drop (listed (largestIn T) i) (houseIn T .queue i)) ∙ ap length (sym (booked-house h (listed (largestIn T)) largest-books .queues i l)))
+      ∙ ap (ltb 0) (sym (length-drop (listed (largestIn T) i) (houseIn T .queue i))
+      ∙ ap length (sym (booked-house h (listed (largestIn T)) largest-books .queues i l)))

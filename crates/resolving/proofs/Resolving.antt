@@ -23,11 +23,11 @@ use Rattle.rule.proofs.Same.{largest-same}
 use Rattle.sets.specs.Sets.{setOf}
 use Rattle.sets.proofs.Highest.{set-cong}
 use Rattle.finder.specs.Tops.{CountsBelow}
-use Rattle.finder.specs.Resolve.{Sits, Resolved, houseOf as foundIn}
+use Rattle.finder.specs.Resolve.{Sits, LargestFound, houseFrom}
 use Rattle.finder.proofs.Tops.{queue-grows}
 use Rattle.finder.proofs.Counts.{counted-largest, counted-positions}
 use Rattle.tables.specs.Sizes.{members}
-use Rattle.tables.specs.Layout.{Tables, membersIn, waitingIn, houseIn, lastOf, settledOf, balanceOf, lineOf}
+use Rattle.tables.specs.Layout.{Tables, membersIn, waitingIn, houseIn, settledOf, lineOf}
 use Rattle.tables.specs.Holds.{Holds}
 use Rattle.tables.proofs.Houses.{holds-payers, holds-sound, no-queue, waiting-sum}
 use Rattle.booking.specs.Booking.{listed, bookedIn, Counted, Weighed}
@@ -38,28 +38,28 @@ use Rattle.answers.specs.declared.Resolution.{Resolution}
 use Rattle.answers.specs.declared.Resolved.the-variants.{Done}
 use Rattle.answers.specs.Outcome.{outcome}
 use Rattle.answers.specs.Verdicts.{named}
-use Rattle.resolving.specs.Resolve.{largestIn, stillWaits, told, resolveAct, Balances, LargestIs}
+use Rattle.resolving.specs.Resolve.{largestIn, stillWaits, told, resolveAct, hasWaiting, Balances, LargestIs}
 
 -- ---- the largest set
 
 module _ {T : Tables} (h : Holds T) {bs : List ℤ} (b : Balances (T .accounts) bs) (ls : List ℤ) (each-line : length ls ≡ members)
     (same-line : (i : ℕ) → i < members → getD ls i (pos 0) ≡ lineOf (T .accounts) i) where
-  none-counted : Counted T (replicate 64 0)
-  none-counted = record { holds = h; members = length-replicate {A = ℕ} 64 0; within = λ i q. rw (getD-replicate {A = ℕ} 64 i 0 0 q) (omega arith) }
+  none-counted : Counted T (replicate members 0)
+  none-counted = record { holds = h; members = length-replicate {A = ℕ} members 0; within = λ i q. rw (getD-replicate {A = ℕ} members i 0 0 q) (omega arith) }
 
   -- the finder can start from the tables,
-  pub can-find : (tops : List ℕ) → length tops ≡ 64 → Sits (membersIn T) (waitingIn T) (T .pays) bs ls tops
+  pub can-find : (tops : List ℕ) → length tops ≡ members → Sits (membersIn T) (waitingIn T) (T .pays) bs ls tops
   can-find tops each-top = record {
-    members = h .counters .few;
+    few = h .counters .few;
     entering = can-enter none-counted bs (b .each) (b .same);
     each-line = each-line;
     each-top = each-top;
     nonneg = λ i l. rw (same-line i (omega (arith, h .counters .few))) (h .accounts .holders i l .line);
     payers = holds-payers h;
-    sound = record { covers = λ i l. let q : i < 64 = omega (arith, h .counters .few) in rw (b .same i q, same-line i q) (holds-sound h .covers i l) };
+    sound = record { covers = λ i l. let q : i < members = omega (arith, h .counters .few) in rw (b .same i q, same-line i q) (holds-sound h .covers i l) };
   }
 
-  same-house : Same (membersIn T) (foundIn (waitingIn T) (T .pays) bs ls) (houseIn T)
+  same-house : Same (membersIn T) (houseFrom (waitingIn T) (T .pays) bs ls) (houseIn T)
   same-house = record {
     lines = λ i l. ap up (sym (same-line i (omega (arith, h .counters .few))));
     balances = λ i l. sym (b .same i (omega (arith, h .counters .few)));
@@ -67,7 +67,8 @@ module _ {T : Tables} (h : Holds T) {bs : List ℤ} (b : Balances (T .accounts) 
   }
 
   -- and its counts are those of the largest set of their house
-  pub largest-found : {ys : List ℤ} {tops counts : List ℕ} → Resolved (membersIn T) (waitingIn T) (T .pays) bs ls ys tops → CountsBelow (T .pays) tops counts → LargestIs T counts
+  pub largest-found : {ys : List ℤ} {tops counts : List ℕ} → LargestFound (membersIn T) (waitingIn T) (T .pays) bs ls ys tops
+      → CountsBelow (T .pays) tops counts → LargestIs T counts
   largest-found {ys} {tops} {counts} r d = record {
     each = d .each;
     largest = largest-same same-house (counted-largest (h .counters .few) r d);
@@ -75,7 +76,8 @@ module _ {T : Tables} (h : Holds T) {bs : List ℤ} (b : Balances (T .accounts) 
   }
 
   -- and its positions are where they take the balances
-  pub found-weighed : {ys : List ℤ} {tops counts : List ℕ} → Resolved (membersIn T) (waitingIn T) (T .pays) bs ls ys tops → CountsBelow (T .pays) tops counts → Weighed T counts ys
+  pub found-weighed : {ys : List ℤ} {tops counts : List ℕ} → LargestFound (membersIn T) (waitingIn T) (T .pays) bs ls ys tops
+      → CountsBelow (T .pays) tops counts → Weighed T counts ys
   unfolding sent received
   found-weighed {ys} {tops} {counts} r d = record {
     members = r .each;
@@ -95,7 +97,10 @@ fill-take all r h =
     (λ i q. let l : i < length r = omega arith in fill-at (listed all) r (length r) i 0 l ∙ sym (getD-take (length r) all i 0 l))
 
 ltb-plus : (s z w : ℕ) → ltb (s + z) (s + w) ≡ ltb z w
-ltb-plus s z w = elim (decLt z w) [ yes q ↦ lt-ltb (s + z) (s + w) (omega arith) ∙ sym (lt-ltb z w q) | no q ↦ le-ltb (s + z) (s + w) (omega arith) ∙ sym (le-ltb z w (omega arith)) ]
+ltb-plus s z w = elim (decLt z w) [
+  | yes q ↦ lt-ltb (s + z) (s + w) (omega arith) ∙ sym (lt-ltb z w q)
+  | no q ↦ le-ltb (s + z) (s + w) (omega arith) ∙ sym (le-ltb z w (omega arith))
+]
 
 module _ {T : Tables} {all : List ℕ} (h : Holds T) (l : LargestIs T all) where
   -- the counts can be booked,
@@ -109,11 +114,14 @@ module _ {T : Tables} {all : List ℕ} (h : Holds T) (l : LargestIs T all) where
   largest-at : (i : ℕ) → listed all i ≡ listed (largestIn T) i
   unfolding largestIn
   largest-at i = elim (decLt i (membersIn T)) [
-    | yes k ↦ largest-unique (l .largest) (resolution-largest (holds-sound h)) i k ∙ sym (getD-listing (membersIn T) (resolution (membersIn T) (houseIn T)) i 0 k)
-    | no k ↦ rest (omega arith) (decLt i 64) ∙ sym (List·getD-eq-default (largestIn T) 0 {n = i} (omega (arith, length-listing (membersIn T) (resolution (membersIn T) (houseIn T)))))
+    | yes k ↦ largest-unique (l .largest) (resolution-largest (holds-sound h)) i k
+        ∙ sym (getD-listing (membersIn T) (resolution (membersIn T) (houseIn T)) i 0 k)
+    | no k ↦
+        let long = length-listing (membersIn T) (resolution (membersIn T) (houseIn T)) in
+        rest (omega arith) (decLt i members) ∙ sym (List·getD-eq-default (largestIn T) 0 {n = i} (omega (arith, long)))
   ]
     where
-      rest : membersIn T ≤ i → Dec (i < 64) → listed all i ≡ 0
+      rest : membersIn T ≤ i → Dec (i < members) → listed all i ≡ 0
       rest k (yes q) = l .past i k q
       rest k (no q) = List·getD-eq-default all 0 {n = i} (omega (arith, l .each))
 
@@ -133,26 +141,31 @@ module _ {T : Tables} {all : List ℕ} (h : Holds T) (l : LargestIs T all) where
   largest-told {k} e =
       largest-cong (covered-lawful (membersIn T) (houseIn T)) (listed k) (λ i q. rw e (sym (getD-take (membersIn T) all i 0 q))) (l .largest)
 
-  ends : setOf (membersIn (bookedIn T (listed all))) (λ i. ltb (settledOf (bookedIn T (listed all) .counters) i) (lastOf (bookedIn T (listed all) .counters) i)) ≡ setOf (membersIn T) (stillWaits (houseIn T) (listed all))
+  ends : let W = bookedIn T (listed all) in setOf (membersIn W) (hasWaiting (W .counters)) ≡ setOf (membersIn T) (stillWaits (houseIn T) (listed all))
   ends =
-      ap (λ n. setOf n (λ i. ltb (settledOf (bookedIn T (listed all) .counters) i) (lastOf (bookedIn T (listed all) .counters) i))) (booked-count h (listed all))
-      ∙ set-cong (membersIn T) (λ i. ltb (settledOf (bookedIn T (listed all) .counters) i) (lastOf (bookedIn T (listed all) .counters) i)) (stillWaits (houseIn T) (listed all)) (λ i q.
-      let k : i < 64 = omega (arith, h .counters .few) in
-      rw (settled-booked h (listed all) i k, booked-last h (listed all) i k, sym (h .numbers .each i k)) (ltb-plus (settledOf (T .counters) i) (listed all i) (waits (houseIn T) i)))
+      let c = bookedIn T (listed all) .counters in
+      ap (λ n. setOf n (hasWaiting c)) (booked-count h (listed all))
+      ∙ set-cong (membersIn T) (hasWaiting c) (stillWaits (houseIn T) (listed all)) (λ i q.
+      let k : i < members = omega (arith, h .counters .few) in
+      rw (settled-booked h (listed all) i k, booked-last h (listed all) i k, sym (h .numbers .each i k))
+      (ltb-plus (settledOf (T .counters) i) (listed all i) (waits (houseIn T) i)))
 
-  each-counted : sum 64 (listed all) ≡ sum (membersIn T) (listed all)
+  each-counted : sum members (listed all) ≡ sum (membersIn T) (listed all)
   each-counted = counts-sum (membersIn T) (listed all) (h .counters .few) (l .past)
 
   -- and what the booking and the telling leave is what a resolution does
   pub settles : {W : Tables} {k′ : List ℕ} (k : List ℕ) (x : Resolution) → W ≡ bookedIn T (listed all)
-      → k′ ≡ take (membersIn T) all → x .verdict ≡ named (verdictOf (waitingIn T) (sum 64 (listed all))) → x .payments ≡ sum 64 (listed all)
-      → x .sum ≡ sum (membersIn T) (sent (houseIn T) (listed all)) → x .waiting ≡ setOf (membersIn W) (λ i. ltb (settledOf (W .counters) i) (lastOf (W .counters) i))
+      → k′ ≡ take (membersIn T) all → x .verdict ≡ named (verdictOf (waitingIn T) (sum members (listed all))) → x .payments ≡ sum members (listed all)
+      → x .sum ≡ sum (membersIn T) (sent (houseIn T) (listed all))
+      → x .waiting ≡ setOf (membersIn W) (hasWaiting (W .counters))
       → outcome (Done x, k′) W ≡ resolveAct k .does T
   unfolding resolveAct
   settles k x eb ek ev en es ew =
       let y : x ≡ told (membersIn T) (houseIn T) (listed all) = resolution-same x (told (membersIn T) (houseIn T) (listed all))
-      (ev ∙ ap (λ w. named (verdictOf w (sum 64 (listed all)))) (sym (waiting-sum h)) ∙ ap (λ n. named (verdictOf (sum (membersIn T) (waits (houseIn T))) n)) each-counted)
+      (ev ∙ ap (λ w. named (verdictOf w (sum members (listed all)))) (sym (waiting-sum h))
+      ∙ ap (λ n. named (verdictOf (sum (membersIn T) (waits (houseIn T))) n)) each-counted)
       (en ∙ each-counted)
       es
-      (ew ∙ ap (λ (Y : Tables). setOf (membersIn Y) (λ i. ltb (settledOf (Y .counters) i) (lastOf (Y .counters) i))) eb ∙ ends) in
-      (λ j. outcome (Done (y j), (ek ∙ largest-take) j) (eb j)) ∙ ap (λ (z : Counts). outcome (Done (told (membersIn T) (houseIn T) z), largestIn T) (bookedIn T z)) largest-all
+      (ew ∙ ap (λ (Y : Tables). setOf (membersIn Y) (hasWaiting (Y .counters))) eb ∙ ends) in
+      (λ j. outcome (Done (y j), (ek ∙ largest-take) j) (eb j))
+      ∙ ap (λ (z : Counts). outcome (Done (told (membersIn T) (houseIn T) z), largestIn T) (bookedIn T z)) largest-all

@@ -1,4 +1,5 @@
--- Resolve: the largest allowed set is booked (document 01, "Resolve", "Verdict"; codes 1, 10). k is the lent list of counts.
+-- Resolve: the largest allowed set is booked (document 01, "Resolve", "Verdict"; codes 1, 10). T are the tables before,
+-- k is the lent list of counts; H is a house of n members, z a set of payments as counts, i a member.
 use mathlib.Core.Path.{_≡_}
 use mathlib.Core.Bool.{Bool, not}
 use mathlib.Core.List.{List, [], _∷_}
@@ -13,7 +14,7 @@ use Rattle.rule.specs.Verdict.{verdict}
 use Rattle.rule.specs.Resolution.{resolution}
 use Rattle.sets.specs.Sets.{setOf}
 use Rattle.tables.specs.Sizes.{members}
-use Rattle.tables.specs.Layout.{Tables, membersIn, houseIn, balanceOf}
+use Rattle.tables.specs.Layout.{Tables, membersIn, houseIn, balanceOf, lastOf, settledOf}
 use Rattle.booking.specs.Booking.{listed, bookedIn}
 use Rattle.answers.specs.Codes.{test}
 use Rattle.answers.specs.Outcome.{Act, outcome}
@@ -50,6 +51,10 @@ ToldLargest (Done r) T counts = LargestSet (membersIn T) (houseIn T) (listed cou
 ToldLargest (Refused r) T counts = Unit {0}
 
 -- ---- its steps
+
+-- member i has payments waiting, by the counters c: fewer were settled than accepted
+abbrev pub hasWaiting : List ℕ → ℕ → Bool
+hasWaiting c i = ltb (settledOf c i) (lastOf c i)
 
 -- the positions are the balances that the accounts hold
 pub record Balances (accounts positions : List ℤ) : Type 0 where

@@ -7,17 +7,16 @@ use tables::House;
 use tables::steps::wide;
 ghost use mathlib.Core.Path.{_≡_};
 ghost use Prim.Native.Nat.{_≤_};
-ghost use lib.Dec.{ltb};
 ghost use lib.ListN.{length, take};
 ghost use Rattle.rule.specs.Verdict.{verdictOf};
 ghost use Rattle.sets.specs.Sets.{setOf};
 ghost use Rattle.tables.specs.Sizes.{members, table};
-ghost use Rattle.tables.specs.Layout.{tables, countOf, lastOf, settledOf};
+ghost use Rattle.tables.specs.Layout.{tables, countOf};
 ghost use Rattle.tables.specs.Holds.{Holds};
 ghost use Rattle.booking.specs.Booking.{Weighed};
 ghost use Rattle.answers.specs.Outcome.{outcome, held};
 ghost use Rattle.answers.specs.Verdicts.{named};
-ghost use Rattle.resolving.specs.Resolve.{resolveAct, ToldLargest, Balances, LargestIs};
+ghost use Rattle.resolving.specs.Resolve.{resolveAct, ToldLargest, hasWaiting, Balances, LargestIs};
 
 // Settles the largest allowed set, and writes its counts into the lent list.
 pub fn resolve(
@@ -99,7 +98,7 @@ fn verdict_of(waited: u32, settled: u32) -> Verdict
 // The set of members with payments waiting.
 fn still_waiting(counters: &[u32]) -> u64
     requires { ⌜ (table ≤ length (now counters)) × (countOf (now counters) ≤ members) ⌝ }
-    ensures { λ r. ⌜ r ≡ setOf (countOf (now (counters .entry))) (λ i. ltb (settledOf (now (counters .entry)) i) (lastOf (now (counters .entry)) i)) ⌝ }
+    ensures { λ r. ⌜ r ≡ setOf (countOf (now (counters .entry))) (hasWaiting (now (counters .entry))) ⌝ }
 {
     let mut set = 0u64;
     let mut i = wide(counters[0]);

@@ -7,11 +7,12 @@ use lib.IntN.{ℤ, pos, _+ℤ_}
 use lib.Signed.{_≤ℤ_}
 use Rattle.rule.specs.Kernel.{Counts, sum}
 use Rattle.rule.specs.Payment.{payerOf}
+use Rattle.rule.specs.Queue.{just}
 use Rattle.rule.specs.House.{House, booked, leeway, LargestSet, Sound, Same, Proper, money}
 use Rattle.rule.specs.Day.{Call, deposit, submit, settle, onlyFor, call, Accepts, Lived, done, next, deposits, payments, Day, atOnce}
-use Rattle.rule.specs.Bounds.{Alike}
-use Rattle.rule.specs.Chain.{Permitted, Step, rise, append, book, step, Leads, then, rises, appended, Resolved, arrived, gathered, just}
-use Rattle.rule.specs.Cover.{terms, state}
+use Rattle.rule.specs.Workings.Bounds.{Alike}
+use Rattle.rule.specs.Workings.Chain.{Permitted, Step, rise, append, book, step, Leads, then, rises, appended, Concluded, arrived, gathered}
+use Rattle.rule.specs.Workings.Cover.{terms, state}
 use Rattle.rule.specs.Ints.{up, down}
 use Rattle.rule.proofs.Ints.{plus, nonneg-is, nonneg-of, plus-assoc, plus-zero}
 use Rattle.rule.proofs.Sums.{sum-add, sum-cong, sum-zero}
@@ -109,7 +110,7 @@ module _ {n : ℕ} {O E : House} {cs : List Call} (day : Day n O cs E) where
   pub day-lines : (i : ℕ) → i < n → E .line i ≡ O .line i
   day-lines i h = day .ends .lines i h ∙ kept .lines i h
 
-  pub day-resolved : Resolved n terms (state O) (as-steps cs) (state E)
+  pub day-resolved : Concluded n terms (state O) (as-steps cs) (state E)
   day-resolved = record {
     eve = state (day .eve);
     leads = kept .leads;
@@ -143,7 +144,7 @@ day-end {n} {O} {E} {cs} {z} day l =
     ok : Sound n (atOnce O cs)
     ok = at-once-sound (day .sound) cs
 
-    chain : Resolved n terms (state O) (as-steps cs) (state E)
+    chain : Concluded n terms (state O) (as-steps cs) (state E)
     chain = day-resolved day
 
 -- two days from like states, with the same deposits for each member and the same payments of each payer in order, end alike
@@ -185,7 +186,8 @@ deposits-next n (submit w) cs = omega (arith, sum-zero n)
 deposits-next n (settle z) cs = omega (arith, sum-zero n)
 
 -- and after any calls the sum of balances is the first sum and all that was deposited
-pub lived-money : {n : ℕ} {X Z : House} {cs : List Call} → Proper n X → Lived n X cs Z → money n (Z .balance) ≡ money n (X .balance) +ℤ pos (sum n (deposits cs))
+pub lived-money : {n : ℕ} {X Z : House} {cs : List Call} → Proper n X → Lived n X cs Z
+    → money n (Z .balance) ≡ money n (X .balance) +ℤ pos (sum n (deposits cs))
 lived-money {n} {X} {Z} o (done s) = money-same n (X .balance) (Z .balance) (s .balances) ∙ rw (sum-zero n) (sym (plus-zero (money n (X .balance))))
 lived-money {n} {X} {Z} o (next {Y = Y} {c = c} {cs = cs} p s l) =
     lived-money (proper-same (call-outgoing c o p) s) l

@@ -7,7 +7,8 @@ use native.Mathlib.Omega.{arith}
 use lib.Dec.{ltb}
 use lib.IntN.{pos}
 use borrow.Author.Tests.{ltb-true, ltb-false}
-use Rattle.rule.specs.Kernel.{Counts, Around, none, lower, sum}
+use Rattle.rule.specs.Kernel.{Counts, none, lower, sum}
+use Rattle.rule.specs.Workings.Law.{Around}
 use Rattle.rule.specs.House.{House, waits, booked, cover, Covered, LargestSet, Sound}
 use Rattle.rule.specs.Resolution.{short, firstOf, trimmed, resolution}
 use Rattle.rule.proofs.Ints.{ltZ-true, ltZ-false, nonneg-of, nonneg-is}
@@ -26,7 +27,8 @@ first-true (suc n) f h = go (f 0) refl (first-true n (λ i. f (suc i))) h
     rest : ℕ
     rest = firstOf n (λ i. f (suc i))
 
-    go : (b : Bool) → f 0 ≡ b → (rest < n → f (suc rest) ≡ true) → elim b [ true ↦ 0 | false ↦ suc rest ] < suc n → f (elim b [ true ↦ 0 | false ↦ suc rest ]) ≡ true
+    go : (b : Bool) → f 0 ≡ b → (rest < n → f (suc rest) ≡ true) → elim b [ true ↦ 0 | false ↦ suc rest ] < suc n
+        → f (elim b [ true ↦ 0 | false ↦ suc rest ]) ≡ true
     go true e ih l = e
     go false e ih l = ih (omega arith)
 
@@ -38,7 +40,8 @@ first-none (suc n) f h i l = go (f 0) refl (first-none n (λ j. f (suc j))) h i 
     rest : ℕ
     rest = firstOf n (λ j. f (suc j))
 
-    go : (b : Bool) → f 0 ≡ b → (n ≤ rest → (j : ℕ) → j < n → f (suc j) ≡ false) → suc n ≤ elim b [ true ↦ 0 | false ↦ suc rest ] → (j : ℕ) → j < suc n → f j ≡ false
+    go : (b : Bool) → f 0 ≡ b → (n ≤ rest → (j : ℕ) → j < n → f (suc j) ≡ false) → suc n ≤ elim b [ true ↦ 0 | false ↦ suc rest ] → (j : ℕ)
+        → j < suc n → f j ≡ false
     go true e ih g j k = absurd (omega arith)
     go false e ih g zero k = e
     go false e ih g (suc j) k = ih (omega arith) j (omega arith)

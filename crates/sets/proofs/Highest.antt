@@ -48,7 +48,8 @@ module _ {n : ℕ} {f : ℕ → Bool} where
         record {
           within = omega (arith, r .within);
           done = rw (d, lowest-apart (n - i) (λ k. f (i - 1 + k)), z, e)
-              (ap (λ s. s * 2 + cond b 1 0) (r .done ∙ set-cong (n - i) (λ k. f (i + k)) (λ k. f (i - 1 + suc k)) (λ k h. let w : i + k ≡ i - 1 + suc k = omega arith in ap f w)));
+              (ap (λ s. s * 2 + cond b 1 0)
+              (r .done ∙ set-cong (n - i) (λ k. f (i + k)) (λ k. f (i - 1 + suc k)) (λ k h. let w : i + k ≡ i - 1 + suc k = omega arith in ap f w)));
         }
 
     -- reads one member more, who stands in the set,

@@ -1,5 +1,6 @@
 -- A set of members as one number (document 01, "In answers a set of members is one unsigned 64-bit number"). f tells who stands in it,
 -- the members counted from 0, so that member i + 1 of the paper counts as 2^i.
+-- There are n members, and s is the number of a set.
 use mathlib.Core.Bool.{Bool, cond}
 use Prim.Native.Nat.{ℕ, zero, suc, _+_, _^_}
 use lib.Dec.{eqb}

@@ -5,6 +5,7 @@ use mathlib.Core.Logic.{⊎-elim}
 use Prim.Native.Nat.{_-_, _≤_, _<_}
 use native.Mathlib.Omega.{arith}
 use lib.ListN.{getD}
+use Rattle.tables.specs.Sizes.{members}
 use Rattle.finder.proofs.Tops.{payer-under}
 use Rattle.finder.proofs.Counts.{Counted, counted-start, counted-in, counted-out, counted-end}
 use borrow.Author.Needs.{needs}
@@ -17,8 +18,8 @@ Inv-loop pays used tops counts₀ m₀ counts m = (m ≤ used) × Counted m pays
 abbrev μ-loop : tie.MeasureT-loop
 μ-loop pays used tops counts₀ m₀ counts m = used - m
 
-inside : (d : tie.After-payer-of Inv-loop μ-loop) → d .payer-of .result < 64
-inside d = omega (arith, d .payer-of .ensures, payer-under (getD (d .before .before .before .before .before .before .args .pays .now) (d .before .before .before .loop .m) 0))
+inside : (d : tie.After-payer-of Inv-loop μ-loop) → d .payer-of .result < members
+inside d = let l = d .before .before .before in omega (arith, d .payer-of .ensures, payer-under (getD (l .before .before .before .args .pays .now) (l .loop .m) 0))
 
 loop-holds : tie.Need-loop-holds Inv-loop μ-loop
 loop-holds c = (omega arith, counted-start)
@@ -36,7 +37,7 @@ mul-if1 : tie.Need-mul-if1 Inv-loop μ-loop
 mul-if1 c = omega (arith, inside c)
 
 shared-slice-read-if1 : tie.Need-shared-slice-read-if1 Inv-loop μ-loop
-shared-slice-read-if1 c = omega (arith, inside (c .before), c .before .before .before .before .before .before .before .pre .0 .each)
+shared-slice-read-if1 c = let l = c .before .before .before .before in omega (arith, inside (c .before), l .before .before .before .pre .0 .each)
 
 mul-counts : tie.Need-mul-counts Inv-loop μ-loop
 mul-counts c = omega (arith, inside (c .before .before))
@@ -47,7 +48,8 @@ array-read-counts c = inside (c .before .before)
 add-counts : tie.Need-add-counts Inv-loop μ-loop
 add-counts c =
     let d = c .before .before in
-    omega (arith, c .before .before .before .before .before .loop .inv .1 .few (d .payer-of .result) (inside d), c .before .before .before .before .before .before .before .before .pre .1)
+    let l = d .before .before .before in
+    omega (arith, l .loop .inv .1 .few (d .payer-of .result) (inside d), l .before .before .before .pre .1)
 
 array-write-counts : tie.Need-array-write-counts Inv-loop μ-loop
 array-write-counts c = inside (c .before .before)
@@ -61,8 +63,9 @@ loop-less c = search needs
 loop-again : tie.Need-loop-again Inv-loop μ-loop
 loop-again c =
     let e = c .before .before .payer-of .ensures in
-    let l = c .before .before .before .before .before .loop in
-    let s = c .before .before .before .before .before .before .before .before in (
+    let b = c .before .before .before .before .before in
+    let l = b .loop in
+    let s = b .before .before .before in (
       omega arith,
       ⊎-elim
           (λ w. counted-in (omega (arith, s .pre .0 .places)) (l .inv .1) (rw e at (w .0 .taken)) (rw e at (w .1)))

@@ -27,8 +27,8 @@ same-length c = search needs
 
 returns : tie.Need-returns
 returns c =
-    c .before .transfer .ensures
-    ∙ rw (c .before .before .before .before .before .payer-of .ensures, c .before .before .before .before .payee-of .ensures, c .before .before .before .amount-of .ensures)
+    let d = c .before .before .before in
+    c .before .transfer .ensures ∙ rw (d .before .before .payer-of .ensures, d .before .payee-of .ensures, d .amount-of .ensures)
 
 pub enter-spec : {M : Type 1} → statement M
 enter-spec =

@@ -38,7 +38,8 @@ loop-less c = search needs
 
 loop-again : tie.Need-loop-again Inv-loop μ-loop
 loop-again c =
-    let s = c .before .before .before .before .before .before .before in
+    let l = c .before .before .before in
+    let s = l .before .before .before .before in
     let d = entered-next (s .pre) (omega arith) (c .before .before .before .before .before .loop .inv .2) (c .before .enter .ensures) in
     (d .each ∙ sym (s .pre .each), omega arith, d)
 

@@ -11,7 +11,8 @@ use Rattle.finder.proofs.find.Statement.{statement}
 use Rattle.finder.proofs.find.Tie as tie
 
 abbrev Inv-loop : tie.InvT-loop
-Inv-loop pays used positions₀ lines tops₀ befores count again₀ positions tops again = (length positions ≡ length positions₀) × (length tops ≡ length tops₀) × Searching again count used pays lines positions₀ positions tops₀ tops
+Inv-loop pays used positions₀ lines tops₀ befores count again₀ positions tops again =
+    (length positions ≡ length positions₀) × (length tops ≡ length tops₀) × Searching again count used pays lines positions₀ positions tops₀ tops
 
 abbrev μ-loop : tie.MeasureT-loop
 μ-loop pays used positions₀ lines tops₀ befores count again₀ positions tops again = height tops + cond again 1 0
@@ -21,18 +22,21 @@ loop-holds c = (refl, refl, search-start (c .before .before .before .pre .0))
 
 round-requires : tie.Need-round-requires Inv-loop μ-loop
 round-requires c κs =
-    let s = c .before .before .before .before .before .before .before in
-    let g = c .before .before .before .loop .inv .2 in
+    let l = c .before .before .before in
+    let s = l .before .before .before .before in
+    let g = l .loop .inv .2 in
     (ready-on (s .pre .0) (g .ranges) (g .keeps), s .pre .1)
 
 loop-less : tie.Need-loop-less Inv-loop μ-loop
-loop-less c = rw (c .before .before .before .before .before .before .loop-test .taken) (search-falls (c .before .before .before .round .ensures))
+loop-less c = let d = c .before .before .before in rw (d .before .before .before .loop-test .taken) (search-falls (d .round .ensures))
 
 loop-again : tie.Need-loop-again Inv-loop μ-loop
 loop-again c =
-    let p = c .before .before .before .before .before .before .before .before .before .before .before .pre .0 .ranges in
-    let d = c .before .before .before .round .ensures in
-    (d .ranges .each-position ∙ sym (p .each-position), d .ranges .topped .each ∙ sym (p .topped .each), search-next (c .before .before .before .before .before .before .before .loop .inv .2) d)
+    let r = c .before .before .before in
+    let l = r .before .before .before .before in
+    let p = l .before .before .before .before .pre .0 .ranges in
+    let d = r .round .ensures in
+    (d .ranges .each-position ∙ sym (p .each-position), d .ranges .topped .each ∙ sym (p .topped .each), search-next (l .loop .inv .2) d)
 
 same-length : tie.Need-same-length Inv-loop μ-loop
 same-length c = search needs

@@ -4,6 +4,7 @@ use mathlib.Core.Path.{_≡_, refl}
 use Prim.Native.Nat.{_-_, _≤_, _<_}
 use native.Mathlib.Omega.{arith}
 use lib.ListN.{length, getD, length-set}
+use Rattle.tables.specs.Sizes.{members}
 use Rattle.finder.specs.Tops.{AllIn, Linked}
 use Rattle.finder.proofs.Tops.{payer-under}
 use Rattle.finder.proofs.Links.{all-in-start, linked-start, all-in-next, linked-next}
@@ -12,13 +13,16 @@ use Rattle.finder.proofs.link_all.Statement.{statement}
 use Rattle.finder.proofs.link_all.Tie as tie
 
 abbrev Inv-loop : tie.InvT-loop
-Inv-loop pays used tops₀ befores₀ m₀ tops befores m = (length tops ≡ length tops₀) × (length befores ≡ length befores₀) × (m ≤ used) × AllIn m pays tops × Linked m pays befores
+Inv-loop pays used tops₀ befores₀ m₀ tops befores m =
+    (length tops ≡ length tops₀) × (length befores ≡ length befores₀) × (m ≤ used) × AllIn m pays tops × Linked m pays befores
 
 abbrev μ-loop : tie.MeasureT-loop
 μ-loop pays used tops₀ befores₀ m₀ tops befores m = used - m
 
-inside : (d : tie.After-payer-of Inv-loop μ-loop) → d .payer-of .result < 64
-inside d = omega (arith, d .payer-of .ensures, payer-under (getD (d .before .before .before .before .before .before .before .args .pays .now) (d .before .before .before .loop .m) 0))
+inside : (d : tie.After-payer-of Inv-loop μ-loop) → d .payer-of .result < members
+inside d =
+    let l = d .before .before .before in
+    omega (arith, d .payer-of .ensures, payer-under (getD (l .before .before .before .before .args .pays .now) (l .loop .m) 0))
 
 loop-holds : tie.Need-loop-holds Inv-loop μ-loop
 loop-holds c = (refl, refl, omega arith, all-in-start (c .before .before .before .pre .0), linked-start)
@@ -39,7 +43,10 @@ slice-read-befores : tie.Need-slice-read-befores Inv-loop μ-loop
 slice-read-befores c = omega (arith, inside (c .before), c .before .before .before .before .loop .inv .3 .topped .each)
 
 cast-befores : tie.Need-cast-befores Inv-loop μ-loop
-cast-befores c = omega (arith, c .before .before .before .before .loop .inv .3 .topped .within (c .before .payer-of .result) (inside (c .before)), c .before .before .before .before .before .before .before .before .pre .1 .2)
+cast-befores c =
+    let d = c .before in
+    let l = d .before .before .before in
+    omega (arith, l .loop .inv .3 .topped .within (d .payer-of .result) (inside d), l .before .before .before .before .pre .1 .2)
 
 mul-befores-2 : tie.Need-mul-befores-2 Inv-loop μ-loop
 mul-befores-2 c = search needs
@@ -65,9 +72,11 @@ loop-less c = search needs
 loop-again : tie.Need-loop-again Inv-loop μ-loop
 loop-again c =
     let e = c .before .payer-of .ensures in
-    let l = c .before .before .before .before .loop in
-    let p = c .before .before .before .before .before .before .before .before .pre .1 in
-    let h : l .m < length (c .before .before .before .before .before .before .before .before .args .pays .now) = omega (arith, p .0) in
+    let b = c .before .before .before .before in
+    let l = b .loop in
+    let s = b .before .before .before .before in
+    let p = s .pre .1 in
+    let h : l .m < length (s .args .pays .now) = omega (arith, p .0) in
     let k : l .m < length (l .befores) = omega (arith, p .1, l .inv .1) in
     (simp length-set (l .inv .0), simp length-set (l .inv .1), omega arith, rw e (all-in-next h (l .inv .3)), rw e (linked-next h (l .inv .3) k (l .inv .4)))
 

@@ -4,16 +4,17 @@ use Prim.Native.Nat.{ℕ, _-_, _≤_, _<_}
 use native.Mathlib.Omega.{arith}
 use lib.ListN.{length, getD, length-set}
 use borrow.Author.Count.{below-none}
+use Rattle.tables.specs.Sizes.{members}
 use Rattle.finder.proofs.Links.{none-next}
 use borrow.Author.Needs.{needs}
 use Rattle.finder.proofs.none_in.Statement.{statement}
 use Rattle.finder.proofs.none_in.Tie as tie
 
 abbrev Inv-loop : tie.InvT-loop
-Inv-loop tops₀ i₀ tops i = (length tops ≡ length tops₀) × (i ≤ 64) × ((k : ℕ) → k < i → getD tops k 0 ≡ 0)
+Inv-loop tops₀ i₀ tops i = (length tops ≡ length tops₀) × (i ≤ members) × ((k : ℕ) → k < i → getD tops k 0 ≡ 0)
 
 abbrev μ-loop : tie.MeasureT-loop
-μ-loop tops₀ i₀ tops i = 64 - i
+μ-loop tops₀ i₀ tops i = members - i
 
 loop-holds : tie.Need-loop-holds Inv-loop μ-loop
 loop-holds c = (refl, omega arith, below-none (λ (k : ℕ). getD (c .args .tops .now) k 0 ≡ 0))

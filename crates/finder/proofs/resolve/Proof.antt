@@ -4,6 +4,19 @@ use borrow.Author.Needs.{needs}
 use Rattle.finder.proofs.resolve.Statement.{statement}
 use Rattle.finder.proofs.resolve.Tie as tie
 
+-- the way back: to the start, to where every payment was entered, and to where they were linked
+abbrev start : tie.After-enter-all → tie.Start
+start e = e .before .before .before .before
+
+abbrev entered : tie.After-none-in → tie.After-enter-all
+entered d = d .before .before .before
+
+abbrev seated : tie.After-link-all → tie.After-enter-all
+seated d = entered (d .before .before .before .before .before)
+
+abbrev linked : tie.After-befores3 → tie.After-link-all
+linked f = let a = f .before .before .before in a .before .before .before
+
 enter-all-requires : tie.Need-enter-all-requires
 enter-all-requires c κs = search needs
 
@@ -15,17 +28,18 @@ slice-aggregate-link-all c = search needs
 
 link-all-requires : tie.Need-link-all-requires
 link-all-requires c κs =
-    let g = c .before .before .before .before .before .before .before .before .before .before .before .pre .entering in
-    (c .before .before .before .before .none-in .ensures, (g .places, g .few, g .few))
+    let d = c .before .before .before .before in
+    let g = start (entered d) .pre .entering in
+    (d .none-in .ensures, (g .places, g .few, g .few))
 
 slice-aggregate-find : tie.Need-slice-aggregate-find
 slice-aggregate-find c = search needs
 
 find-requires : tie.Need-find-requires
 find-requires c κs =
-    let d = c .before .before .before .before .before .before in
-    let e = d .before .before .before .before .before .before .before .before in
-    (ready-start (e .before .before .before .before .pre) (e .enter-all .ensures) (d .link-all .ensures .0), d .link-all .ensures .1)
+    let d = linked c in
+    let e = seated d in
+    (ready-start (start e .pre) (e .enter-all .ensures) (d .link-all .ensures .0), d .link-all .ensures .1)
 
 same-length : tie.Need-same-length
 same-length c = search needs
@@ -35,9 +49,10 @@ same-length-2 c = search needs
 
 returns : tie.Need-returns
 returns c =
-    let d = c .before .before .before .before .before .before .before .before .before .before in
-    let e = d .before .before .before .before .before .before .before .before in
-    resolved (e .before .before .before .before .pre) (e .enter-all .ensures) (d .link-all .ensures .0) (c .before .before .before .find .ensures)
+    let f = c .before .before .before in
+    let d = linked (f .before) in
+    let e = seated d in
+    resolved (start e .pre) (e .enter-all .ensures) (d .link-all .ensures .0) (f .find .ensures)
 
 pub resolve-spec : {M : Type 1} → statement M
 resolve-spec =

@@ -11,17 +11,26 @@ use Rattle.finder.proofs.round.Statement.{statement}
 use Rattle.finder.proofs.round.Tie as tie
 
 abbrev Inv-loop : tie.InvT-loop
-Inv-loop pays used positions₀ lines tops₀ befores count any₀ member₀ positions tops any member = (length positions ≡ length positions₀) × (length tops ≡ length tops₀) × (member ≤ count) × Rounded any count used member pays lines positions₀ positions tops₀ tops
+Inv-loop pays used positions₀ lines tops₀ befores count any₀ member₀ positions tops any member =
+    (length positions ≡ length positions₀) × (length tops ≡ length tops₀) × (member ≤ count)
+    × Rounded any count used member pays lines positions₀ positions tops₀ tops
 
 abbrev μ-loop : tie.MeasureT-loop
 μ-loop pays used positions₀ lines tops₀ befores count any₀ member₀ positions tops any member = count - member
 
-turn : (c : tie.Joined1 Inv-loop μ-loop) → let a = c .before .before .before .before .before .before .before .before .before .before .before .before .args in
-    Rounded (c .if1 .any) (a .count) (a .used) (c .before .before .before .before .before .before .before .before .loop .member + 1) (a .pays .now) (a .lines .now)
-    (a .positions .now) (c .before .before .before .before .step .last .1 .1 .0) (a .tops .now) (c .before .before .before .before .step .last .1 .1 .1 .1 .0)
+abbrev top : tie.After-step Inv-loop μ-loop → tie.At-loop Inv-loop μ-loop
+top d = d .before .before .before .before
+
+abbrev start : tie.At-loop Inv-loop μ-loop → tie.Start Inv-loop μ-loop
+start l = l .before .before .before .before
+
+turn : (c : tie.Joined1 Inv-loop μ-loop) → let e = c .before .before .before .before in let l = top e in let a = start l .args in
+    Rounded (c .if1 .any) (a .count) (a .used) (l .loop .member + 1) (a .pays .now) (a .lines .now)
+    (a .positions .now) (e .step .last .1 .1 .0) (a .tops .now) (e .step .last .1 .1 .1 .1 .0)
 turn c =
-    let g = c .before .before .before .before .before .before .before .before .loop .inv .3 in
-    let d = c .before .before .before .before .step .ensures in
+    let e = c .before .before .before .before in
+    let g = top e .loop .inv .3 in
+    let d = e .step .ensures in
     ⊎-elim (λ w. round-off g d (w .0 .taken) (w .1)) (λ w. round-past g d (w .0 .left) (w .1)) (c .if1 .came)
 
 loop-holds : tie.Need-loop-holds Inv-loop μ-loop
@@ -29,8 +38,9 @@ loop-holds c = (refl, refl, omega arith, round-start (c .before .before .before 
 
 step-requires : tie.Need-step-requires Inv-loop μ-loop
 step-requires c κs =
-    let g = c .before .before .before .loop .inv .3 in
-    let p = c .before .before .before .before .before .before .before .pre in
+    let l = c .before .before .before in
+    let g = l .loop .inv .3 in
+    let p = start l .pre in
     (ready-on (p .0) (g .ranges) (g .keeps), (p .1, omega arith))
 
 add-member : tie.Need-add-member Inv-loop μ-loop
@@ -41,7 +51,7 @@ loop-less c = search needs
 
 loop-again : tie.Need-loop-again Inv-loop μ-loop
 loop-again c =
-    let s = c .before .before .before .before .before .before .before .before .before .before .before .before in
+    let s = start (top (c .before .before .before .before)) in
     let g = turn c in
     (g .ranges .each-position ∙ sym (s .pre .0 .ranges .each-position), g .ranges .topped .each ∙ sym (s .pre .0 .ranges .topped .each), omega arith, g)
 

@@ -21,10 +21,18 @@ use Rattle.finder.proofs.step.Statement.{statement}
 use Rattle.finder.proofs.step.Tie as tie
 
 abbrev Inv-loop : tie.InvT-loop
-Inv-loop pays used positions₀ lines tops₀ befores count member m₀ due₀ taken₀ positions tops m due taken = (length positions ≡ length positions₀) × (length tops ≡ length tops₀) × (due < 2 ^ 64) × Stepping taken count used member m due pays lines positions₀ positions tops₀ tops
+Inv-loop pays used positions₀ lines tops₀ befores count member m₀ due₀ taken₀ positions tops m due taken =
+    (length positions ≡ length positions₀) × (length tops ≡ length tops₀) × (due < 2 ^ 64)
+    × Stepping taken count used member m due pays lines positions₀ positions tops₀ tops
 
 abbrev μ-loop : tie.MeasureT-loop
 μ-loop pays used positions₀ lines tops₀ befores count member m₀ due₀ taken₀ positions tops m due taken = height tops * 2 ^ 64 + due
+
+abbrev top : tie.After-is-short Inv-loop μ-loop → tie.At-loop Inv-loop μ-loop
+top d = d .before .before .before .before
+
+abbrev judged : tie.After-take-off Inv-loop μ-loop → tie.After-is-short Inv-loop μ-loop
+judged t = t .before .before .before .before
 
 told : (d : tie.After-is-short Inv-loop μ-loop) → let l = d .before .before .before .before in
     Short (l .loop .positions) (l .before .before .before .before .args .lines .now) (l .loop .m) ≡ d .is-short .result
@@ -37,7 +45,9 @@ told d =
 long : (d : tie.Joined1 Inv-loop μ-loop) → let l = d .before in let a = l .before .before .before .before .args in
     l .loop .m < a .count → Short (l .loop .positions) (a .lines .now) (l .loop .m) ≡ false
 long d h = ⊎-elim
-    (λ w. told (record { before = record { before = record { before = record { before = d .before; if1 = w .0 }; position = w .1 }; line = w .2 }; is-short = w .3 }) ∙ w .4 .left)
+    (λ w.
+    let at : tie.After-line Inv-loop μ-loop = record { before = record { before = record { before = d .before; if1 = w .0 }; position = w .1 }; line = w .2 } in
+    told (record { before = at; is-short = w .3 }) ∙ w .4 .left)
     (λ w. absurd (omega arith))
     (d .if1 .came)
 
@@ -71,30 +81,33 @@ is-short-requires c κs =
 
 take-off-requires : tie.Need-take-off-requires Inv-loop μ-loop
 take-off-requires c κs =
-    let l = c .before .before .before .before .before .before .before in
+    let d = c .before .before .before in
+    let l = top d in
     let s = l .before .before .before .before in
     let g = l .loop .inv .3 in
-    off-ready (ready-on (s .pre .0) (g .ranges) (g .keeps)) (s .pre .1 .0) (omega arith) (told (c .before .before .before) ∙ c .before .before .if2 .taken)
+    off-ready (ready-on (s .pre .0) (g .ranges) (g .keeps)) (s .pre .1 .0) (omega arith) (told d ∙ c .before .before .if2 .taken)
 
 shl-due : tie.Need-shl-due Inv-loop μ-loop
 shl-due c =
-    let l = c .before .before .before .before .before .before .before .before .before .before .before in
-    let t = c .before .before .before .take-off .ensures in
+    let e = c .before .before .before in
+    let l = top (judged e) in
+    let t = e .take-off .ensures in
     omega (arith, t .paid, payee-under (getD (l .before .before .before .before .args .pays .now) (t .place) 0))
 
 loop-less : tie.Need-loop-less Inv-loop μ-loop
 loop-less c =
-    let l = c .before .before .before .before .before .before .before .before .before .before .before in
-    omega (arith, height-off (l .loop .inv .3 .ranges) (omega arith) (c .before .before .before .take-off .ensures), more l (c .before .before .before .take-off .result))
+    let e = c .before .before .before in
+    let l = top (judged e) in
+    omega (arith, height-off (l .loop .inv .3 .ranges) (omega arith) (e .take-off .ensures), more l (e .take-off .result))
 
 loop-again : tie.Need-loop-again Inv-loop μ-loop
 loop-again c =
-    let l = c .before .before .before .before .before .before .before .before .before .before .before in
+    let e = c .before .before .before in
+    let d = judged e in
+    let l = top d in
     let p = l .before .before .before .before .pre .0 .ranges in
-    let g = step-off (l .loop .inv .3) (omega arith) (omega arith)
-    (told (c .before .before .before .before .before .before .before) ∙ c .before .before .before .before .before .before .if2 .taken)
-    (c .before .before .before .take-off .ensures) in
-    (g .ranges .each-position ∙ sym (p .each-position), g .ranges .topped .each ∙ sym (p .topped .each), more l (c .before .before .before .take-off .result), g)
+    let g = step-off (l .loop .inv .3) (omega arith) (omega arith) (told d ∙ e .before .before .before .if2 .taken) (e .take-off .ensures) in
+    (g .ranges .each-position ∙ sym (p .each-position), g .ranges .topped .each ∙ sym (p .topped .each), more l (e .take-off .result), g)
 
 same-length : tie.Need-same-length Inv-loop μ-loop
 same-length c = search needs
@@ -103,7 +116,7 @@ same-length-2 : tie.Need-same-length-2 Inv-loop μ-loop
 same-length-2 c = search needs
 
 returns : tie.Need-returns Inv-loop μ-loop
-returns c = step-end (c .before .before .loop .inv .3) (c .before .before .before .before .before .before .pre .1 .1) (long (c .before))
+returns c = let l = c .before .before in step-end (l .loop .inv .3) (l .before .before .before .before .pre .1 .1) (long (c .before))
 
 cast-m : tie.Need-cast-m Inv-loop μ-loop
 cast-m c = omega (arith, trailing-le 64 (c .before .before .loop .due))
@@ -115,7 +128,9 @@ loop-less-2 : tie.Need-loop-less-2 Inv-loop μ-loop
 loop-less-2 c = omega (arith, fewer (c .before .before))
 
 loop-again-2 : tie.Need-loop-again-2 Inv-loop μ-loop
-loop-again-2 c = (c .before .before .loop .inv .0, c .before .before .loop .inv .1, omega (arith, fewer (c .before .before)), step-next (c .before .before .loop .inv .3) (c .if3 .left))
+loop-again-2 c =
+    let l = c .before .before in
+    (l .loop .inv .0, l .loop .inv .1, omega (arith, fewer l), step-next (l .loop .inv .3) (c .if3 .left))
 
 pub step-spec : {M : Type 1} → statement M
 step-spec =

@@ -7,7 +7,7 @@ use lib.ListN.{length}
 use mir.Syntax.{w64}
 use mir.Val.{SFits}
 use Rattle.rule.proofs.Ints.{ints, minus, plain}
-use Rattle.finder.specs.Limits.{far, mostAmount}
+use Rattle.finder.specs.Limits.{far, farAmount}
 use Rattle.finder.specs.Positions.{added}
 use Rattle.finder.proofs.Positions.{minus-far, given-far}
 use borrow.Author.Needs.{needs}
@@ -20,10 +20,10 @@ fits s = omega arith
 minus-fits : (s : tie.Start) → SFits w64 (pos 0 -ℤ pos (s .args .amount))
 minus-fits s = omega (ints, fits s, minus (pos 0) (pos (s .args .amount)))
 
-minus-small : (s : tie.Start) → far (pos 0 -ℤ pos (s .args .amount)) ≤ mostAmount
+minus-small : (s : tie.Start) → far (pos 0 -ℤ pos (s .args .amount)) ≤ farAmount
 minus-small s = omega (arith, minus-far (s .args .amount))
 
-gave : (d : tie.After-add) → d .add .last .0 ≡ added (d .before .before .args .positions .now) (d .before .before .args .giver) (pos 0 -ℤ pos (d .before .before .args .amount))
+gave : (d : tie.After-add) → let a = d .before .before .args in d .add .last .0 ≡ added (a .positions .now) (a .giver) (pos 0 -ℤ pos (a .amount))
 gave d =
     let s = d .before .before in
     let g = fits s in
@@ -49,12 +49,17 @@ add-requires-2 : tie.Need-add-requires-2
 add-requires-2 c κs =
     let d = c .before .before in
     let s = d .before .before in
+    let a = s .args in
     let g = fits s in
     let inside : s .args .giver < length (s .args .positions .now) = omega (arith, s .pre .0 .each) in (
       omega (arith, d .add .kept .0, s .pre .0 .each),
       (
         simp plain (omega arith),
-        rw (gave d) (omega (arith, s .pre .0 .near (s .args .taker) (s .pre .1 .1), given-far (s .args .positions .now) (s .args .giver) (s .args .taker) (s .args .amount) (s .args .taker) inside)),
+        rw (gave d) (omega (
+          arith,
+          s .pre .0 .near (a .taker) (s .pre .1 .1),
+          given-far (a .positions .now) (a .giver) (a .taker) (a .amount) (a .taker) inside,
+        )),
       ),
     )
 

@@ -16,7 +16,8 @@ abbrev start : tie.After-wide → tie.Start
 start d = d .before .before .before .before
 
 -- the lines are those that the tables hold
-lines : (d : tie.After-balances) (i : ℕ) → i < members → let a = start (d .before .before .before .before) .args .accounts .now in getD (d .balances .result) i (pos 0) ≡ lineOf a i
+lines : (d : tie.After-balances) (i : ℕ) → i < members
+    → getD (d .balances .result) i (pos 0) ≡ lineOf (start (d .before .before .before .before) .args .accounts .now) i
 lines d i h =
     let a = start (d .before .before .before .before) .args .accounts .now in
     d .balances .ensures i h ∙ getD-take (length a - linesAt) (drop linesAt a) i (pos 0) (omega arith) ∙ getD-drop linesAt a i (pos 0)

@@ -31,7 +31,7 @@ abbrev found : tie.After-tally → tie.After-largest
 found t = t .before .before .before
 
 abbrev counted : tie.After-book → tie.After-tally
-counted b = b .before .before .before .before .before .before
+counted b = let a = b .before .before .before in a .before .before .before
 
 abbrev settled : tie.After-tell → tie.After-book
 settled e = let p = e .before .before .before .before in p .before .before .before .before

@@ -1,21 +1,16 @@
 -- `resolving::still_waiting` meets its contract. The loop's invariant: the number holds the members from i on, so that it can be doubled.
 use borrow.Author.Needs.{needs}
 use borrow.Author.Tests.{lt-ltb, le-ltb}
-use mathlib.Core.Bool.{Bool}
-use mathlib.Core.List.{List}
-use Prim.Native.Nat.{ℕ, _-_}
+use Prim.Native.Nat.{_-_}
 use native.Mathlib.Omega.{arith}
-use lib.Dec.{ltb}
 use Rattle.sets.proofs.Highest.{Read, read-start, read-room, read-in, read-out, read-end}
 use Rattle.tables.specs.Layout.{countOf, lastOf, settledOf}
+use Rattle.resolving.specs.Resolve.{hasWaiting}
 use Rattle.resolving.proofs.still_waiting.Statement.{statement}
 use Rattle.resolving.proofs.still_waiting.Tie as tie
 
-abbrev waiting : List ℕ → ℕ → Bool
-waiting counters k = ltb (settledOf counters k) (lastOf counters k)
-
 abbrev Inv-loop : tie.InvT-loop
-Inv-loop counters set₀ i₀ set i = Read (countOf counters) (waiting counters) set i
+Inv-loop counters set₀ i₀ set i = Read (countOf counters) (hasWaiting counters) set i
 
 abbrev μ-loop : tie.MeasureT-loop
 μ-loop counters set₀ i₀ set i = i
@@ -60,13 +55,21 @@ loop-less : tie.Need-loop-less Inv-loop μ-loop
 loop-less c = search needs
 
 loop-again : tie.Need-loop-again Inv-loop μ-loop
-loop-again c = let s = c .before .before .before .before .before .before .before .before in let i = c .before .before .before .before .loop .i - 1 in read-in (c .before .before .before .before .loop .inv) (omega arith) (lt-ltb (settledOf (s .args .counters .now) i) (lastOf (s .args .counters .now) i) (c .if1 .taken))
+loop-again c =
+    let l = c .before .before .before .before in
+    let a = l .before .before .before .before .args .counters .now in
+    let i = l .loop .i - 1 in
+    read-in (l .loop .inv) (omega arith) (lt-ltb (settledOf a i) (lastOf a i) (c .if1 .taken))
 
 loop-less-2 : tie.Need-loop-less-2 Inv-loop μ-loop
 loop-less-2 c = search needs
 
 loop-again-2 : tie.Need-loop-again-2 Inv-loop μ-loop
-loop-again-2 c = let s = c .before .before .before .before .before .before .before .before in let i = c .before .before .before .before .loop .i - 1 in read-out (c .before .before .before .before .loop .inv) (omega arith) (le-ltb (settledOf (s .args .counters .now) i) (lastOf (s .args .counters .now) i) (omega (arith, c .if1 .left)))
+loop-again-2 c =
+    let l = c .before .before .before .before in
+    let a = l .before .before .before .before .args .counters .now in
+    let i = l .loop .i - 1 in
+    read-out (l .loop .inv) (omega arith) (le-ltb (settledOf a i) (lastOf a i) (omega (arith, c .if1 .left)))
 
 returns : tie.Need-returns Inv-loop μ-loop
 returns c = read-end (c .before .loop .inv) (omega arith)

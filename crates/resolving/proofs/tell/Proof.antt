@@ -46,7 +46,8 @@ same-length c = fill-same (c .before .loop .inv) (omega arith)
 returns : tie.Need-returns Inv-loop μ-loop
 returns c =
     let s = c .before .before in
-    fill-end (c .before .loop .inv) (omega (arith, fill-same (c .before .loop .inv) (omega arith))) ∙ fill-take (s .args .all .now) (s .args .counts .now) (s .pre)
+    fill-end (c .before .loop .inv) (omega (arith, fill-same (c .before .loop .inv) (omega arith)))
+    ∙ fill-take (s .args .all .now) (s .args .counts .now) (s .pre)
 
 pub tell-spec : {M : Type 1} → statement M
 tell-spec =

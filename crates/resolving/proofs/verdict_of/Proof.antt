@@ -11,13 +11,13 @@ returns-2 c = rw (ne-eqb (c .before .before .args .waited) 0 (c .before .if1 .le
 
 returns-3 : tie.Need-returns-3
 returns-3 c =
-    let s = c .before .before .before in
-    rw (ne-eqb (s .args .waited) 0 (c .before .before .if1 .left), ne-eqb (s .args .settled) 0 (c .before .if2 .left), eq-eqb (s .args .settled) (s .args .waited) (c .if3 .taken))
+    let a = c .before .before .before .args in
+    rw (ne-eqb (a .waited) 0 (c .before .before .if1 .left), ne-eqb (a .settled) 0 (c .before .if2 .left), eq-eqb (a .settled) (a .waited) (c .if3 .taken))
 
 returns-4 : tie.Need-returns-4
 returns-4 c =
-    let s = c .before .before .before in
-    rw (ne-eqb (s .args .waited) 0 (c .before .before .if1 .left), ne-eqb (s .args .settled) 0 (c .before .if2 .left), ne-eqb (s .args .settled) (s .args .waited) (c .if3 .left))
+    let a = c .before .before .before .args in
+    rw (ne-eqb (a .waited) 0 (c .before .before .if1 .left), ne-eqb (a .settled) 0 (c .before .if2 .left), ne-eqb (a .settled) (a .waited) (c .if3 .left))
 
 pub verdict-of-spec : {M : Type 1} → statement M
 verdict-of-spec = tie.close (tie.spec returns returns-2 returns-3 returns-4)
