@@ -9,6 +9,9 @@ ghost use Rattle.numbers.specs.Numbers.{mostDigits, numberOf, signedOf, 
 // The most digits of a number.
 const MOST_DIGITS: usize = 18;
 
+// A number of 64 bits is below ten to the power of this, or has one digit more.
+const WIDEST: usize = 19;
+
 // A field read as a number.
 pub enum Number {
     Value(u64),
@@ -61,20 +64,20 @@ pub fn read_number(field: &[u8]) -> Number
     Number::Value(x)
 }
 
-// How many digits x has.
+// How many digits x has: the first power of ten above it tells.
 fn width(x: u64) -> usize
     ensures { λ r. ⌜ r ≡ widthOf x ⌝ }
 {
-    let mut y = x;
     let mut n = 1usize;
-    while n < 20 {
-        if y < 10 {
+    let mut power = 10u64;
+    while n < WIDEST {
+        if x < power {
             return n;
         }
-        y = y / 10;
+        power = power * 10;
         n += 1;
     }
-    n
+    if x < power { WIDEST } else { WIDEST + 1 }
 }
 
 // Writes x from place at on, and gives the place behind it.
@@ -85,10 +88,15 @@ pub fn put_number(out: &mut [u8], at: usize, x: u64) -> usize
     let w = width(x);
     let mut y = x;
     let mut k = w;
-    while k > 0 {
-        k -= 1;
-        out[at + k] = 48 + (y % 10) as u8;
-        y = y / 10;
+    while k > 1 {
+        k -= 2;
+        let r = y % 100;
+        out[at + k + 1] = 48 + (r % 10) as u8;
+        out[at + k] = 48 + (r / 10) as u8;
+        y = y / 100;
+    }
+    if k > 0 {
+        out[at] = 48 + (y % 10) as u8;
     }
     at + w
 }
