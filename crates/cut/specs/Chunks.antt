@@ -1,10 +1,11 @@
 -- The same in chunks of any size: what is held between two of them, what eating a chunk finds, and what a day makes of the lines.
-use Prim.Native.Nat.{ℕ, suc, _+_}
+use Prim.Native.Nat.{ℕ, suc, _+_, _-_, _≤_, _<_}
 use mathlib.Core.Path.{_≡_}
+use mathlib.Core.Logic.{_≢_}
 use mathlib.Core.Bool.{Bool, true, false, cond}
 use mathlib.Core.List.{List, [], _∷_, _++_}
 use lib.Dec.{ltb, eqb}
-use lib.ListN.{length, take}
+use lib.ListN.{length, getD, take, drop}
 use Rattle.cut.specs.declared.Cut.{Cut}
 use Rattle.cut.specs.declared.Ate.{Ate}
 use Rattle.cut.specs.Lines.{mostBytes, Line, text, long}
@@ -50,6 +51,23 @@ pub record Ready (r : Ate) (e : Eaten) (buf : List ℕ) (from : ℕ) : Type 0 wh
   pub done : r .«is_done» ≡ e .done
   pub place : r .at ≡ from + e .used
   pub held : stateOf buf (r .cut) ≡ e .held
+
+-- so many bytes are looked at a turn
+abbrev pub block : ℕ
+block = 16
+
+-- e is the place of the first byte 10, or the length where there is none
+pub record EndAt (s : List ℕ) (e : ℕ) : Type 0 where
+  pub within : e ≤ length s
+  pub others : (j : ℕ) → j < e → getD s j 0 ≢ 10
+  pub ends : e < length s → getD s e 0 ≡ 10
+
+-- nothing is held, and the line from place from on ends at e, behind at most 400 bytes
+pub record WholeAt (s : List ℕ) (from : ℕ) (c : Cut) (e : ℕ) : Type 0 where
+  pub start : from ≤ e
+  pub short : e ≤ from + mostBytes
+  pub none-held : (buf : List ℕ) → stateOf buf c ≡ none
+  pub eaten : eatOf (drop from s) none ≡ record { done = true; used = e - from + 1; held = record { bytes = take (e - from) (drop from s); over = false } }
 
 -- a day D so far, and what is held of the next line
 pub record Fed (D : Type 0) : Type 0 where

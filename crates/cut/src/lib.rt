@@ -3,10 +3,13 @@ ghost use mathlib.Core.Path.{_≡_};
 ghost use Prim.Native.Nat.{_+_, _≤_, _<_};
 ghost use lib.ListN.{length, drop};
 ghost use Rattle.cut.specs.Lines.{mostBytes};
-ghost use Rattle.cut.specs.Chunks.{pushed, eatOf, stateOf, Ready};
+ghost use Rattle.cut.specs.Chunks.{pushed, eatOf, stateOf, Ready, EndAt, WholeAt};
 
 // The most bytes of a line, before the byte 10.
 pub const MOST_BYTES: usize = 400;
+
+// So many bytes are looked at a turn.
+const BLOCK: usize = 16;
 
 // What is held of the line that is not ended: how many bytes stand in the lent buffer, and whether there were more than 400.
 pub struct Cut {
@@ -19,6 +22,54 @@ pub struct Ate {
     pub is_done: bool,
     pub at: usize,
     pub cut: Cut,
+}
+
+// The end of the line from from on, where nothing is held of it and all of it stands in the chunk; or the chunk's end.
+pub fn whole(chunk: &[u8], from: usize, c: Cut) -> usize
+    requires { ⌜ from ≤ length (now chunk) ⌝ }
+    ensures { λ r. ⌜ (r < length (now (chunk .entry)) → WholeAt (now (chunk .entry)) from c r) ⌝ }
+{
+    if c.held > 0 {
+        return chunk.len();
+    }
+    if c.is_long {
+        return chunk.len();
+    }
+    let n = line_end(&chunk[from..]);
+    if n > MOST_BYTES {
+        return chunk.len();
+    }
+    from + n
+}
+
+// The place of the first byte 10, or the length where there is none.
+fn line_end(s: &[u8]) -> usize
+    ensures { λ r. ⌜ EndAt (now (s .entry)) r ⌝ }
+{
+    let n = s.len();
+    let mut i = 0;
+    while n - i >= BLOCK {
+        let k = end_in(&s[i..i + BLOCK]);
+        if k < BLOCK {
+            return i + k;
+        }
+        i += BLOCK;
+    }
+    i + end_in(&s[i..n])
+}
+
+// The same, byte by byte.
+fn end_in(s: &[u8]) -> usize
+    ensures { λ r. ⌜ EndAt (now (s .entry)) r ⌝ }
+{
+    let mut i = 0;
+    while i < s.len() {
+        if s[i] == 10 {
+            return i;
+        }
+        i += 1;
+    }
+    i
 }
 
 // Eats the chunk from from on, up to and with the end of a line, or all of it.
