@@ -24,7 +24,8 @@ carried-join {T} {U} {W} {cs} {ds} k m = record {
   members = m .members ∙ k .members;
   lived = lived-join (k .lived) (subst (λ n. Lived n (houseIn U) ds (houseIn W)) (k .members) (m .lived));
   lasts = λ i q. rw (payments-join cs ds i, length-append) (omega (arith, k .lasts i q, m .lasts i (omega (arith, k .members))));
-  money = m .money ∙ rw (k .members, k .money, sum-join (membersIn T) cs ds) (plus-assoc (moneyOf (T .accounts)) (sum (membersIn T) (deposits cs)) (sum (membersIn T) (deposits ds)));
+  money = m .money ∙ rw (k .members, k .money, sum-join (membersIn T) cs ds)
+      (plus-assoc (moneyOf (T .accounts)) (sum (membersIn T) (deposits cs)) (sum (membersIn T) (deposits ds)));
 }
 
 -- requests from a state on, inside a day, are the rule's calls that they made

@@ -10,6 +10,7 @@ use Rattle.rule.specs.House.{LargestSet, Same, booked}
 use Rattle.rule.specs.Day.{Day, deposits, payments, atOnce}
 use Rattle.rule.proofs.Demands.{no-bank-favoured, as-at-once, largest-exists}
 use Rattle.rule.proofs.Day.{at-once-sound}
+use Rattle.tables.specs.Sizes.{members}
 use Rattle.tables.specs.Layout.{Tables, membersIn, houseIn, lastOf, settledOf}
 use Rattle.tables.specs.Holds.{Holds}
 use Rattle.tables.proofs.Houses.{holds-sound}
@@ -85,7 +86,8 @@ module _ {T W : Tables} {qs : List Request} (h : Holds T) (d : Ended T qs W) whe
 pub equal-queues : {W X : Tables} → Holds W → Holds X → Equal W X → (i : ℕ) → i < membersIn W → queueIn W i ≡ queueIn X i
 equal-queues {W} {X} h g e i q =
     let l = e .same .queues i q in
-    let s : settledOf (X .counters) i ≡ settledOf (W .counters) i = omega (arith, h .counters .few, h .numbers .each i (omega (arith, h .counters .few)), g .numbers .each i (omega (arith, h .counters .few)), ap length l, e .lasts i q) in
+    let m : i < members = omega (arith, h .counters .few) in
+    let s : settledOf (X .counters) i ≡ settledOf (W .counters) i = omega (arith, h .numbers .each i m, g .numbers .each i m, ap length l, e .lasts i q) in
     rw (s, l)
 
 module _ {T U W X : Tables} {qs rs : List Request} (h : Holds T) (g : Holds U) (first : Equal T U) (d : Ended T qs W) (e : Ended U rs X)

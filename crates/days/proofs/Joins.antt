@@ -1,4 +1,5 @@
--- The calls of two stretches of a day, one after the other: their deposits add up, their payments stand one behind the other, and a house that lives through both lives through all.
+-- The calls of two stretches of a day, one after the other: their deposits add up, their payments stand one behind the other, and a house
+-- that lives through both lives through all.
 use mathlib.Core.Path.{_≡_, refl, sym}
 use mathlib.Core.List.{List, [], _∷_, _++_, append-assoc}
 use Prim.Native.Nat.{ℕ, _+_}

@@ -5,3 +5,4 @@ pub mod Numbers
 pub mod Demand3
 pub mod Openings
 pub mod Sums
+pub mod ZeroGroup

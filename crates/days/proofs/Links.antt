@@ -78,8 +78,9 @@ module _ {T : Tables} (h : Holds T) where
     stands = submits-hold h s;
     members = submits-count h s;
     lived = next (submits-accepts h s) (submits-call h s) (done same-refl);
-    lasts = λ i l. submits-last h s i ∙ ap (λ k. lastOf (T .counters) i + k)
-        (rw (payer-word (m - 1) (q - 1) x (omega (arith, s .one, s .within, h .counters .few)) (omega (arith, s .to, s .known, h .counters .few))) (one-long (eqb (m - 1) i) (word (m - 1) (q - 1) x)));
+    lasts = λ i l.
+        let p = payer-word (m - 1) (q - 1) x (omega (arith, s .one, s .within, h .counters .few)) (omega (arith, s .to, s .known, h .counters .few)) in
+        submits-last h s i ∙ ap (λ k. lastOf (T .counters) i + k) (rw p (one-long (eqb (m - 1) i) (word (m - 1) (q - 1) x)));
     money = ap moneyOf (submits-accounts h s) ∙ no-more (membersIn T) (moneyOf (T .accounts));
   }
 

@@ -32,7 +32,9 @@ use Rattle.days.proofs.Demand3.{ended-stands, ended-members, ended-day,
 module _ {n : ℕ} {b l : List ℤ} {T : Tables} (o : Begun n b l T) where
   judged : first (openAct n b l .tests (o .before)) ≡ Fine
   unfolding held openAct
-  judged = done-fine (openAct n b l) (o .before) (first (openAct n b l .tests (o .before))) (outcome (Done (o .sum)) T) (λ r e. let z : _≡_ {A = ℕ} 0 1 = cc in omega arith) (o .promise)
+  judged =
+      done-fine (openAct n b l) (o .before) (first (openAct n b l .tests (o .before))) (outcome (Done (o .sum)) T)
+      (λ r e. let z : _≡_ {A = ℕ} 0 1 = cc in omega arith) (o .promise)
 
   fine : Opens (o .before) n b l
   fine = open-fine judged
@@ -69,7 +71,14 @@ module _ {n : ℕ} {b l : List ℤ} {T : Tables} (o : Begun n b l T) where
   pub begun-day : {W : Tables} {qs : List Request} (d : Ended T qs W) → Day n (openingOf b l) (made qs T) (houseIn W)
   begun-day {W} {qs} d =
       let y : Day n (houseIn T) (made qs T) (houseIn W) = subst (λ k. Day k (houseIn T) (made qs T) (houseIn W)) begun-members (ended-day begun-stands d) in
-      record { sound = sound-same (y .sound) (same-sym begun-house); eve = y .eve; lived = lived-from begun-house (y .lived); counts = y .counts; last = y .last; ends = y .ends }
+      record {
+        sound = sound-same (y .sound) (same-sym begun-house);
+        eve = y .eve;
+        lived = lived-from begun-house (y .lived);
+        counts = y .counts;
+        last = y .last;
+        ends = y .ends;
+      }
 
   -- and ends as rule 2 says for the opening balances, all deposits and all payments taken at once, whichever largest set is booked,
   pub day-ends-as-largest : {W : Tables} {qs : List Request} (d : Ended T qs W) {z : Counts} → LargestSet n (atOnce (openingOf b l) (made qs T)) z
@@ -99,8 +108,12 @@ module _ {n : ℕ} {b l : List ℤ} {T U W X : Tables} {qs rs : List Request} (o
   -- days that open alike, with equal deposit totals for each member and the same payments in the same order for each payer, each ending
   -- in an accepted resolution, end with equal balances,
   pub days-end-equal : Equal W X
-  days-end-equal = ends-equal (begun-stands o) (begun-stands r) (begun-equal o r) d e (λ i q. paid-in i (omega (arith, begun-members o))) (λ i q. paid i (omega (arith, begun-members o)))
+  days-end-equal =
+      ends-equal (begun-stands o) (begun-stands r) (begun-equal o r) d e
+      (λ i q. paid-in i (omega (arith, begun-members o))) (λ i q. paid i (omega (arith, begun-members o)))
 
   -- and equal queues: payer, number, payee and amount of each payment
   pub days-end-queues : (i : ℕ) → i < n → queueIn W i ≡ queueIn X i
-  days-end-queues i q = equal-queues (ended-stands (begun-stands o) d) (ended-stands (begun-stands r) e) days-end-equal i (omega (arith, ended-members (begun-stands o) d, begun-members o))
+  days-end-queues i q =
+      equal-queues (ended-stands (begun-stands o) d) (ended-stands (begun-stands r) e) days-end-equal i
+      (omega (arith, ended-members (begun-stands o) d, begun-members o))

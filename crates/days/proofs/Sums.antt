@@ -1,4 +1,5 @@
--- After any chain of calls inside a day the sum of balances is the first sum plus accepted deposits, each member is covered, and its line is as opened: from what a chain carries.
+-- After any chain of calls inside a day the sum of balances is the first sum plus accepted deposits, each member is covered, and its line
+-- is as opened: from what a chain carries.
 use mathlib.Core.Path.{_≡_, sym, ap, _∙_}
 use mathlib.Core.List.{List}
 use Prim.Native.Nat.{ℕ, _<_}

@@ -18,7 +18,7 @@ use Rattle.settling.specs.Release.{releaseAct, onlyHead}
 use Rattle.settling.specs.Group.{groupAct}
 use Rattle.resolving.specs.Resolve.{resolveAct, largestIn}
 use Rattle.answers.specs.Codes.{first}
-use Rattle.answers.specs.Outcome.{Act, outcome, held, judgement, called}
+use Rattle.answers.specs.Outcome.{outcome, held, judgement, called}
 use Rattle.answers.specs.declared.Judged.{Judged}
 use Rattle.answers.specs.declared.Judged.the-variants.{Fine, Bad}
 use Rattle.answers.specs.declared.Opened.the-variants as opening

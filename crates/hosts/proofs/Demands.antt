@@ -23,17 +23,18 @@ use Rattle.booking.specs.Booking.{listed}
 use Rattle.opening.specs.Open.{entry, openedIn, openAct}
 use Rattle.opening.proofs.Judging.{open-fine}
 use Rattle.resolving.specs.Resolve.{resolveAct, largestIn, told}
-use Rattle.lists.specs.Bytes.{tablesIn, accountsIn, signedIn, countsIn}
-use Rattle.lists.proofs.Back.{least-in, held-kept}
-use Rattle.calls.specs.Reply.{Lent, lends}
-use Rattle.calls.specs.Telling.{toldOpened, toldResolved}
+use Rattle.lent.specs.Bytes.{tablesIn, accountsIn, signedIn, countsIn}
+use Rattle.lent.proofs.Back.{least-in, held-kept}
+use Rattle.lent.specs.Reply.{Lent, lends}
+use Rattle.lent.specs.Stands.{Stands}
+use Rattle.lent.specs.Asks.{Ask, opens, deposits, submits, releases, groups, resolves, replied, toldOpened, toldResolved}
 use Rattle.days.specs.Days.{Request, Begun, Ended, Equal, queueIn, made}
 use Rattle.days.proofs.Sums.{day-money, chain-covered}
 use Rattle.days.proofs.Openings.{begun-stands, begun-members, day-ends-as-at-once, days-end-equal, days-end-queues}
-use Rattle.hosts.specs.Hosts.{Ask, opens, deposits, submits, releases, groups, resolves, replied, Call, Chain, notes, Day, openingIn}
-use Rattle.hosts.proofs.Replies.{refused-keeps, Accepted, held-accepted, called-accepted}
+use Rattle.hosts.specs.Hosts.{Call, Chain, notes, Day, openingIn}
+use Rattle.hosts.proofs.Replies.{refused-keeps, held-accepted, called-accepted}
 use Rattle.hosts.proofs.Sizes.{kept-opened}
-use Rattle.hosts.proofs.Links.{Stands, Link, Took, stored-stands, taken, took-link, linked}
+use Rattle.hosts.proofs.Links.{Link, Took, stored-stands, taken, took-link, linked}
 use Rattle.hosts.proofs.Chains.{requests, chained}
 
 -- ---- demand 1
@@ -109,7 +110,8 @@ resolved-is k T e f =
     let g = ap (decided (resolveAct k) T) e in
     g ∙ ap (outcome _) (sym (f ∙ ap (λ (u : Outcome (Resolved × List ℕ)). u .after) g))
 
-at-once-same : (O : House) (cs ds : List Noted) → ((i : ℕ) → depositsOf cs i ≡ depositsOf ds i) → ((i : ℕ) → payments cs i ≡ payments ds i) → atOnce O cs ≡ atOnce O ds
+at-once-same : (O : House) (cs ds : List Noted) → ((i : ℕ) → depositsOf cs i ≡ depositsOf ds i) → ((i : ℕ) → payments cs i ≡ payments ds i)
+    → atOnce O cs ≡ atOnce O ds
 at-once-same O cs ds e f j = lined (credited O (λ i. e i j)) (λ i. f i j)
 
 module _ {n : ℕ} {u v t : List ℕ} (d : Day n u v t) where
@@ -129,7 +131,9 @@ module _ {n : ℕ} {u v t : List ℕ} (d : Day n u v t) where
       }
 
   -- a day ends as rule 2 says for the opening balances, all deposits and all payments taken at once: there is a largest set, and what it leaves is in the tables
-  pub ends-as-at-once : (z : Counts) × (LargestSet n (atOnce (openingIn u v) (notes (d .calls))) z) × (Same n (booked n (atOnce (openingIn u v) (notes (d .calls))) z) (houseIn (tablesIn t)))
+  pub ends-as-at-once : (z : Counts)
+      × (LargestSet n (atOnce (openingIn u v) (notes (d .calls))) z)
+      × (Same n (booked n (atOnce (openingIn u v) (notes (d .calls))) z) (houseIn (tablesIn t)))
   ends-as-at-once =
       let z = day-ends-as-at-once (begun (d .first)) ended in
       let e = at-once-same (openingIn u v) (made (requests (d .calls)) (tablesIn (d .morning))) (notes (d .calls)) (link .deposits) (link .payments) in

@@ -8,6 +8,7 @@ use native.Mathlib.Omega.{arith}
 use lib.ListN.{length, getD}
 use Rattle.words.specs.Row.{plain}
 use Rattle.words.proofs.Row.{length-putRow, putRow-outside}
+use Rattle.tables.specs.Sizes.{bytes}
 use Rattle.tables.specs.Layout.{Tables}
 use Rattle.answers.specs.Outcome.{Outcome, held, called}
 use Rattle.answers.specs.declared.Opened.{Opened}
@@ -28,12 +29,13 @@ use Rattle.entry.specs.Submit.{submitAct}
 use Rattle.settling.specs.Release.{releaseAct}
 use Rattle.settling.specs.Group.{groupAct}
 use Rattle.resolving.specs.Resolve.{resolveAct}
-use Rattle.lists.specs.Bytes.{tablesIn, lent, countsIn, signedIn}
-use Rattle.lists.proofs.Back.{Least, least-in, stored-long, stored-past}
-use Rattle.calls.specs.Reply.{Lent, Told, yes, no, written, onBytes, reply}
-use Rattle.calls.specs.Telling.{toldOpened, toldDeposited, toldSubmitted, toldReleased, toldGrouped, toldWith, toldResolved}
+use Rattle.lent.specs.Bytes.{tablesIn, roomy, countsIn, signedIn}
+use Rattle.lent.specs.Stands.{Least}
+use Rattle.lent.proofs.Back.{least-in, stored-long, stored-past}
+use Rattle.lent.specs.Reply.{Lent, Told, yes, no, written, onBytes, reply}
+use Rattle.lent.specs.Asks.{Ask, opens, deposits, submits, releases, groups, resolves, replied, least}
+use Rattle.lent.specs.Asks.{toldOpened, toldDeposited, toldSubmitted, toldReleased, toldGrouped, toldWith, toldResolved}
 use Rattle.days.specs.Days as day
-use Rattle.hosts.specs.Hosts.{Ask, opens, deposits, submits, releases, groups, resolves, replied, least}
 use Rattle.hosts.proofs.Sizes.{after-least}
 
 -- s became t, and what lies from place n on is as it was
@@ -43,7 +45,7 @@ pub record Stays (n : ℕ) (s t : List ℕ) : Type 0 where
 
 -- the lent bytes x became y: the answer stays from byte n on, and each slice is as long as before
 pub record Past (n : ℕ) (x y : Lent) : Type 0 where
-  pub tables : Stays 22528 (x .tables) (y .tables)
+  pub tables : Stays bytes (x .tables) (y .tables)
   pub counts : length (y .counts) ≡ length (x .counts)
   pub answer : Stays n (x .answer) (y .answer)
 
@@ -64,8 +66,9 @@ module _ (x : Lent) (n : ℕ) where
   }
   written-past W (no r) l h = same-past n x
 
-  reply-past : {A : Type 0} (tell : A → Told) (f : Tables → Outcome A) → Least (f (tablesIn (x .tables)) .after) → ((r : A) → Within n (tell r)) → Past n x (reply n tell f x .1)
-  reply-past tell f l h = go (lent (x .tables) (x .answer) n)
+  reply-past : {A : Type 0} (tell : A → Told) (f : Tables → Outcome A) → Least (f (tablesIn (x .tables)) .after) → ((r : A) → Within n (tell r))
+      → Past n x (reply n tell f x .1)
+  reply-past tell f l h = go (roomy (length (x .tables)) (length (x .answer)) n)
     where
       go : (b : Bool) → Past n x (cond b (onBytes tell f x) (1, x) .1)
       go true = written-past (f (tablesIn (x .tables)) .after) (tell (f (tablesIn (x .tables)) .answer)) l (h (f (tablesIn (x .tables)) .answer))
@@ -98,12 +101,22 @@ resolved-parts k (resolving.Refused r) = tt
 
 -- so with every reply,
 replied-past : (q : Ask) (x : Lent) → Past (least q) x (replied q x .1)
-replied-past (opens n u v) x = reply-past x 8 toldOpened (held (openAct n (signedIn u) (signedIn v))) (after-least (least-in (x .tables)) (day.opens n (signedIn u) (signedIn v))) opened-parts
-replied-past (deposits m a) x = reply-past x 8 toldDeposited (called (depositAct m a)) (after-least (least-in (x .tables)) (day.deposits m a)) deposited-parts
-replied-past (submits m n q a) x = reply-past x 0 toldSubmitted (called (submitAct m n q a)) (after-least (least-in (x .tables)) (day.submits m n q a)) submitted-parts
-replied-past (releases m) x = reply-past x 16 toldReleased (called (releaseAct m)) (after-least (least-in (x .tables)) (day.releases m)) released-parts
-replied-past (groups u) x = reply-past x 16 toldGrouped (called (groupAct (countsIn u))) (after-least (least-in (x .tables)) (day.groups (countsIn u))) grouped-parts
-replied-past resolves x = reply-past x 48 toldResolved (called (resolveAct (countsIn (x .counts)))) (after-least (least-in (x .tables)) (day.resolves (countsIn (x .counts)))) (λ r. resolved-parts (r .1) (r .0))
+replied-past (opens n u v) x =
+    let k = openAct n (signedIn u) (signedIn v) in
+    reply-past x 8 toldOpened (held k) (after-least (least-in (x .tables)) (day.opens n (signedIn u) (signedIn v))) opened-parts
+replied-past (deposits m a) x =
+    reply-past x 8 toldDeposited (called (depositAct m a)) (after-least (least-in (x .tables)) (day.deposits m a)) deposited-parts
+replied-past (submits m n q a) x =
+    reply-past x 0 toldSubmitted (called (submitAct m n q a)) (after-least (least-in (x .tables)) (day.submits m n q a)) submitted-parts
+replied-past (releases m) x =
+    reply-past x 16 toldReleased (called (releaseAct m)) (after-least (least-in (x .tables)) (day.releases m)) released-parts
+replied-past (groups u) x =
+    let k = groupAct (countsIn u) in
+    reply-past x 16 toldGrouped (called k) (after-least (least-in (x .tables)) (day.groups (countsIn u))) grouped-parts
+replied-past resolves x =
+    let k = resolveAct (countsIn (x .counts)) in
+    let l = after-least (least-in (x .tables)) (day.resolves (countsIn (x .counts))) in
+    reply-past x 48 toldResolved (called k) l (λ r. resolved-parts (r .1) (r .0))
 
 -- whatever was asked, and whatever the code
 pub past : (q : Ask) (x : Lent) {y : Lent} {k : ℕ} → (k, y) ≡ replied q x → Past (least q) x y

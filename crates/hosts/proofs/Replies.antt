@@ -6,6 +6,7 @@ use mathlib.Core.List.{List}
 use Prim.Native.Nat.{ℕ, _≤_}
 use native.Mathlib.Omega.{arith}
 use lib.ListN.{length}
+use Rattle.tables.specs.Sizes.{bytes}
 use Rattle.tables.specs.Layout.{Tables}
 use Rattle.answers.specs.Codes.{codeOf, first}
 use Rattle.answers.specs.Outcome.{Outcome, Act, decided, judgement, held, called}
@@ -19,11 +20,11 @@ use Rattle.entry.specs.Submit.{submitAct}
 use Rattle.settling.specs.Release.{releaseAct}
 use Rattle.settling.specs.Group.{groupAct}
 use Rattle.resolving.specs.Resolve.{resolveAct}
-use Rattle.lists.specs.Bytes.{tablesIn, withTables, lent, countsIn, signedIn}
-use Rattle.calls.specs.Reply.{Lent, Told, yes, no, written, onBytes, reply}
-use Rattle.calls.specs.Telling.{toldOpened, toldDeposited, toldSubmitted, toldReleased, toldGrouped, toldResolved}
-use Rattle.snarevapor.proofs.Replies.{lent-room}
-use Rattle.hosts.specs.Hosts.{Ask, opens, deposits, submits, releases, groups, resolves, replied}
+use Rattle.lent.specs.Bytes.{tablesIn, withTables, roomy, countsIn, signedIn}
+use Rattle.lent.specs.Reply.{Lent, Told, yes, no, written, onBytes, reply}
+use Rattle.lent.specs.Asks.{Ask, opens, deposits, submits, releases, groups, resolves, replied}
+use Rattle.lent.specs.Asks.{toldOpened, toldDeposited, toldSubmitted, toldReleased, toldGrouped, toldResolved}
+use Rattle.lent.proofs.Replies.{lent-room}
 
 -- ---- refused
 
@@ -33,7 +34,7 @@ module _ (x : Lent) where
   written-keeps W (no r) n = refl
 
   reply-keeps : {A : Type 0} (least : ℕ) (tell : A → Told) (f : Tables → Outcome A) → reply least tell f x .0 ≢ 0 → reply least tell f x .1 ≡ x
-  reply-keeps least tell f = go (lent (x .tables) (x .answer) least)
+  reply-keeps least tell f = go (roomy (length (x .tables)) (length (x .answer)) least)
     where
       go : (b : Bool) → cond b (onBytes tell f x) (1, x) .0 ≢ 0 → cond b (onBytes tell f x) (1, x) .1 ≡ x
       go true n = written-keeps (f (tablesIn (x .tables)) .after) (tell (f (tablesIn (x .tables)) .answer)) n
@@ -71,7 +72,7 @@ some-code Room = omega arith
 -- the call k, judged j, was accepted on the bytes s, which became t
 pub record Accepted {A : Type 0} (k : Act A) (j : Judged) (s t : List ℕ) : Type 0 where
   pub fine : j ≡ Fine
-  pub room : 22528 ≤ length s
+  pub room : bytes ≤ length s
   pub stored : t ≡ withTables s (decided k (tablesIn s) j .after)
 
 module _ {A : Type 0} (k : Act A) (least : ℕ) (tell : A → Told) (refuses : (r : Refusal) → tell (k .refuse r) ≡ no r) (x : Lent) {y : Lent} where
@@ -79,24 +80,27 @@ module _ {A : Type 0} (k : Act A) (least : ℕ) (tell : A → Told) (refuses : (
   told-yes W (yes c p) e = ap (λ (r : ℕ × Lent). r .1 .tables) e
   told-yes W (no r) e = let z : 0 ≡ codeOf r = ap (λ (r : ℕ × Lent). r .0) e in absurd (omega (arith, some-code r))
 
-  judged : (j : Judged) → 22528 ≤ length (x .tables) → (0, y) ≡ written x (decided k (tablesIn (x .tables)) j .after) (tell (decided k (tablesIn (x .tables)) j .answer)) → Accepted k j (x .tables) (y .tables)
+  judged : (j : Judged) → bytes ≤ length (x .tables)
+      → (0, y) ≡ written x (decided k (tablesIn (x .tables)) j .after) (tell (decided k (tablesIn (x .tables)) j .answer))
+      → Accepted k j (x .tables) (y .tables)
   judged Fine l e = record { fine = refl; room = l; stored = told-yes _ (tell (k .does (tablesIn (x .tables)) .answer)) e }
   judged (Bad r) l e =
       let f : (0, y) ≡ written x (tablesIn (x .tables)) (no r) = e ∙ ap (written x (tablesIn (x .tables))) (refuses r) in
       let z : 0 ≡ codeOf r = ap (λ (r : ℕ × Lent). r .0) f in
       absurd (omega (arith, some-code r))
 
-  lent-judged : (j : Judged) (b : Bool) → lent (x .tables) (x .answer) least ≡ b
-      → (0, y) ≡ cond b (written x (decided k (tablesIn (x .tables)) j .after) (tell (decided k (tablesIn (x .tables)) j .answer))) (1, x) → Accepted k j (x .tables) (y .tables)
+  lent-judged : (j : Judged) (b : Bool) → roomy (length (x .tables)) (length (x .answer)) least ≡ b
+      → (0, y) ≡ cond b (written x (decided k (tablesIn (x .tables)) j .after) (tell (decided k (tablesIn (x .tables)) j .answer))) (1, x)
+      → Accepted k j (x .tables) (y .tables)
   lent-judged j true f e = judged j (lent-room (length (x .tables)) (length (x .answer)) least f .0) e
   lent-judged j false f e = let z : _≡_ {A = ℕ} 0 1 = ap (λ (r : ℕ × Lent). r .0) e in absurd (omega arith)
 
   -- a call with code 0 was fine, and its lists were stored,
   pub called-accepted : (0, y) ≡ reply least tell (called k) x → Accepted k (judgement k (tablesIn (x .tables))) (x .tables) (y .tables)
   unfolding called
-  called-accepted e = lent-judged (judgement k (tablesIn (x .tables))) (lent (x .tables) (x .answer) least) refl e
+  called-accepted e = lent-judged (judgement k (tablesIn (x .tables))) (roomy (length (x .tables)) (length (x .answer)) least) refl e
 
   -- and so was an open
   pub held-accepted : (0, y) ≡ reply least tell (held k) x → Accepted k (first (k .tests (tablesIn (x .tables)))) (x .tables) (y .tables)
   unfolding held
-  held-accepted e = lent-judged (first (k .tests (tablesIn (x .tables)))) (lent (x .tables) (x .answer) least) refl e
+  held-accepted e = lent-judged (first (k .tests (tablesIn (x .tables)))) (roomy (length (x .tables)) (length (x .answer)) least) refl e

@@ -10,7 +10,7 @@ use lib.ListN.{length-set}
 use borrow.Author.Tests.{eqb-true}
 use Rattle.rule.specs.Kernel.{Counts}
 use Rattle.rule.proofs.Lists.{fill-length}
-use Rattle.tables.specs.Sizes.{lastNumber}
+use Rattle.tables.specs.Sizes.{members, places, table, lastNumber}
 use Rattle.tables.specs.Layout.{Tables, lastOf}
 use Rattle.tables.specs.Holds.{Holds}
 use Rattle.booking.specs.Booking.{bookedIn}
@@ -30,22 +30,22 @@ use Rattle.entry.proofs.Submits.{submits-last}
 use Rattle.settling.specs.Release.{releaseAct}
 use Rattle.settling.specs.Group.{bookAct, groupAct}
 use Rattle.resolving.specs.Resolve.{resolveAct}
-use Rattle.lists.proofs.Back.{Least, Kept}
+use Rattle.lent.specs.Stands.{Least, Kept}
 use Rattle.days.specs.Days.{Request, opens, deposits, submits, releases, groups, resolves, after, GoesOn}
 use Rattle.days.proofs.Links.{link-carries}
 
 -- the last numbers fit
 record Lasts (T : Tables) : Type 0 where
-  pub each : (i : ℕ) → i < 64 → lastOf (T .counters) i ≤ lastNumber
+  pub each : (i : ℕ) → i < members → lastOf (T .counters) i ≤ lastNumber
 
 -- ---- the lengths of what is done
 
 pub opened-least : {T : Tables} (n : ℕ) (b l : List ℤ) → Least T → Least (openedIn T n b l)
 unfolding openedIn
 opened-least n b l m = record {
-  accounts = fill-length _ _ 512 (omega (arith, m .accounts)) ∙ m .accounts;
-  counters = fill-length _ _ 512 (omega (arith, m .counters)) ∙ m .counters;
-  pays = fill-length _ _ 2048 (omega (arith, m .pays)) ∙ m .pays;
+  accounts = fill-length _ _ table (omega (arith, m .accounts)) ∙ m .accounts;
+  counters = fill-length _ _ table (omega (arith, m .counters)) ∙ m .counters;
+  pays = fill-length _ _ places (omega (arith, m .pays)) ∙ m .pays;
 }
 
 deposited-least : {T : Tables} (m x : ℕ) → Least T → Least (depositedIn T m x)
@@ -68,7 +68,7 @@ deposited-lasts m x l = record { each = l .each }
 submitted-lasts : {T : Tables} {m n q x : ℕ} → Holds T → Submits T m n q x → Lasts T → Lasts (submittedIn T m n q x)
 submitted-lasts {T} {m} {n} {q} {x} h s z = record { each = λ i l. go i l (eqb (m - 1) i) refl }
   where
-    go : (i : ℕ) → i < 64 → (b : Bool) → eqb (m - 1) i ≡ b → lastOf (submittedIn T m n q x .counters) i ≤ lastNumber
+    go : (i : ℕ) → i < members → (b : Bool) → eqb (m - 1) i ≡ b → lastOf (submittedIn T m n q x .counters) i ≤ lastNumber
     go i l true e =
         let f : lastOf (T .counters) (m - 1) ≡ lastOf (T .counters) i = ap (lastOf (T .counters)) (eqb-true (m - 1) i e) in
         rw (submits-last h s i, e) (omega (arith, s .next, s .fits))

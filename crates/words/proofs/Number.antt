@@ -6,11 +6,7 @@ use Prim.Native.Nat.{ℕ, zero, suc, _+_, _*_, _/_, _%_, _^_, _≤_, _<_}
 use native.Mathlib.Nat.{pow-suc}
 use native.Mathlib.Omega.{arith}
 use lib.ListN.{length, getD, set, length-set}
-use lib.Seq.{getD-set-same, getD-set-other, set-getD}
-use lib.IntN.{ℤ}
-use mir.Syntax.{w64}
-use mir.Val.{SFits, toZ, ofZ}
-use mir.Facts.{toZ-ofZ, fits-ofZ}
+use lib.Seq.{getD-set-same, getD-set-other}
 use Rattle.words.specs.Le.{leAt, putAt}
 
 -- Writing keeps the length.
@@ -38,11 +34,6 @@ same-bytes (suc w) s t at h =
     let i = same-bytes w s t (at + 1) (λ k a b. h k (omega arith) (omega arith)) in
     omega (arith, i, h at (omega arith) (omega arith))
 
--- A number written elsewhere changes none.
-pub read-other : (v w : ℕ) (s : List ℕ) (at x b : ℕ) → (b + v ≤ at) ⊎ (at + w ≤ b) → leAt v (putAt w s at x) b ≡ leAt v s b
-read-other v w s at x b (inl h) = same-bytes v _ s b (λ k p q. put-outside w s at x k (inl (omega arith)))
-read-other v w s at x b (inr h) = same-bytes v _ s b (λ k p q. put-outside w s at x k (inr (omega arith)))
-
 -- A number that was written is read.
 pub read-put : (w : ℕ) (s : List ℕ) (at x : ℕ) → at + w ≤ length s → x < 256 ^ w → leAt w (putAt w s at x) at ≡ x
 unfolding leAt putAt
@@ -54,34 +45,8 @@ read-put (suc w) s at x h b =
     let low = put-outside w t (at + 1) (x / 256) at (inl (omega arith)) ∙ getD-set-same s at (x % 256) 0 (omega arith) in
     omega (arith, high, low)
 
--- A signed number that was written is read.
-pub read-put-signed : (s : List ℕ) (at : ℕ) (z : ℤ) → at + 8 ≤ length s → SFits w64 z → toZ w64 (leAt 8 (putAt 8 s at (ofZ w64 z)) at) ≡ z
-read-put-signed s at z h f = ap (toZ w64) (read-put 8 s at (ofZ w64 z) h (fits-ofZ {w = w64} f .fits)) ∙ toZ-ofZ {w = w64} f
-
-set-bytes : (s : List ℕ) (i x : ℕ) → x < 256 → ((k : ℕ) → getD s k 0 < 256) → (k : ℕ) → getD (set s i x) k 0 < 256
-set-bytes [] i x l h k = h k
-set-bytes (y ∷ s) zero x l h zero = l
-set-bytes (y ∷ s) zero x l h (suc k) = h (suc k)
-set-bytes (y ∷ s) (suc i) x l h zero = h 0
-set-bytes (y ∷ s) (suc i) x l h (suc k) = set-bytes s i x l (λ j. h (suc j)) k
-
--- What is written are bytes.
-pub put-bytes : (w : ℕ) (s : List ℕ) (at x : ℕ) → ((k : ℕ) → getD s k 0 < 256) → (k : ℕ) → getD (putAt w s at x) k 0 < 256
-unfolding putAt
-put-bytes zero s at x h = h
-put-bytes (suc w) s at x h = put-bytes w (set s at (x % 256)) (at + 1) (x / 256) (set-bytes s at (x % 256) (omega arith) h)
-
 -- w bytes are a number below 256 ^ w.
 pub below : (w : ℕ) (s : List ℕ) (at : ℕ) → ((k : ℕ) → getD s k 0 < 256) → leAt w s at < 256 ^ w
 unfolding leAt
 below zero s at h = omega arith
 below (suc w) s at h = rw pow-suc (omega (arith, below w s (at + 1) h, h at))
-
--- Writing the number that is there changes nothing.
-pub put-read : (w : ℕ) (s : List ℕ) (at : ℕ) → ((k : ℕ) → getD s k 0 < 256) → putAt w s at (leAt w s at) ≡ s
-unfolding leAt putAt
-put-read zero s at h = refl
-put-read (suc w) s at h =
-    let low : (getD s at 0 + 256 * leAt w s (at + 1)) % 256 ≡ getD s at 0 = omega (arith, h at) in
-    let high : (getD s at 0 + 256 * leAt w s (at + 1)) / 256 ≡ leAt w s (at + 1) = omega (arith, h at) in
-    rw (low, high, set-getD s at 0) (put-read w s (at + 1) h)

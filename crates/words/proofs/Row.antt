@@ -9,8 +9,8 @@ use lib.IntN.{ℤ, pos}
 use lib.ListN.{length, getD}
 use mir.Syntax.{w64}
 use mir.Val.{SFits, toZ, ofZ}
-use mir.Facts.{toZ-ofZ, ofZ-toZ, fits-ofZ}
-use Rattle.words.proofs.Number.{length-put, put-outside, put-bytes, same-bytes, read-put, put-read, below}
+use mir.Facts.{toZ-ofZ, fits-ofZ}
+use Rattle.words.proofs.Number.{length-put, put-outside, same-bytes, read-put, below}
 use Rattle.words.specs.Le.{leAt, putAt}
 use Rattle.words.specs.Row.{rowAt, putRow, plain}
 
@@ -38,11 +38,6 @@ module _ {A : Type 0} (f : ℕ → A) (w : ℕ) where
       let e : at + suc n * w ≡ at + w + n * w = omega (arith, suc-mul n w) in
       ap₂ _∷_ (ap f (same-bytes w s t at (λ k p q. h k p (omega arith)))) (same-row n s t (at + w) (λ k p q. h k (omega arith) (omega arith)))
 
-  -- A number written elsewhere changes no row.
-  pub row-put : (n v : ℕ) (s : List ℕ) (at x b : ℕ) → (b + n * w ≤ at) ⊎ (at + v ≤ b) → rowAt f w n (putAt v s at x) b ≡ rowAt f w n s b
-  row-put n v s at x b (inl h) = same-row n _ s b (λ k p q. put-outside v s at x k (inl (omega arith)))
-  row-put n v s at x b (inr h) = same-row n _ s b (λ k p q. put-outside v s at x k (inr (omega arith)))
-
 -- A row of unsigned numbers that is read has only such as w bytes hold.
 pub row-below : (w n : ℕ) (s : List ℕ) (at i : ℕ) → ((k : ℕ) → getD s k 0 < 256) → i < n → getD (rowAt plain w n s at) i 0 < 256 ^ w
 row-below w n s at i h l = rw (getD-row plain w n s at i 0 l) (below w s (at + i * w) h)
@@ -62,12 +57,6 @@ module _ {A : Type 0} (g : A → ℕ) (w : ℕ) where
   putRow-outside s at (x ∷ xs) k (inr h) =
       let e : at + suc (length xs) * w ≡ at + w + length xs * w = omega (arith, suc-mul (length xs) w) in
       putRow-outside (putAt w s at (g x)) (at + w) xs k (inr (omega arith)) ∙ put-outside w s at (g x) k (inr (omega arith))
-
-  -- What is written are bytes.
-  pub putRow-bytes : (s : List ℕ) (at : ℕ) (xs : List A) → ((k : ℕ) → getD s k 0 < 256) → (k : ℕ) → getD (putRow g w s at xs) k 0 < 256
-  unfolding putRow
-  putRow-bytes s at [] h = h
-  putRow-bytes s at (x ∷ xs) h = putRow-bytes (putAt w s at (g x)) (at + w) xs (put-bytes w s at (g x) h)
 
   -- A row written elsewhere changes no number.
   pub read-putRow : (v : ℕ) (s : List ℕ) (at : ℕ) (xs : List A) (b : ℕ) → (b + v ≤ at) ⊎ (at + length xs * w ≤ b) → leAt v (putRow g w s at xs) b ≡ leAt v s b
@@ -111,20 +100,3 @@ pub row-back-signed : (n : ℕ) (s : List ℕ) (at : ℕ) (xs : List ℤ) → n 
     → rowAt (toZ w64) 8 n (putRow (ofZ w64) 8 s at xs) at ≡ xs
 row-back-signed n s at xs e room h =
     row-back (toZ w64) (ofZ w64) 8 (pos 0) n s at xs e room (record { fits = λ i l. fits-ofZ {w = w64} (h i l) .fits; back = λ i l. toZ-ofZ {w = w64} (h i l) })
-
-module _ {A : Type 0} (f : ℕ → A) (g : A → ℕ) (w : ℕ) (undo : (x : ℕ) → x < 256 ^ w → g (f x) ≡ x) where
-  -- Writing the row that is there changes nothing, where the number of what a number stands for is that number.
-  pub row-again : (n : ℕ) (s : List ℕ) (at : ℕ) → ((k : ℕ) → getD s k 0 < 256) → putRow g w s at (rowAt f w n s at) ≡ s
-  unfolding rowAt putRow
-  row-again zero s at h = refl
-  row-again (suc n) s at h =
-      let e : putAt w s at (g (f (leAt w s at))) ≡ s = rw (undo (leAt w s at) (below w s at h)) (put-read w s at h) in
-      ap (λ (l : List ℕ). putRow g w l (at + w) (rowAt f w n s (at + w))) e ∙ row-again n s (at + w) h
-
--- So with unsigned numbers.
-pub row-again-plain : (w n : ℕ) (s : List ℕ) (at : ℕ) → ((k : ℕ) → getD s k 0 < 256) → putRow plain w s at (rowAt plain w n s at) ≡ s
-row-again-plain w n s at h = row-again plain plain w (λ x l. refl) n s at h
-
--- So with signed numbers.
-pub row-again-signed : (n : ℕ) (s : List ℕ) (at : ℕ) → ((k : ℕ) → getD s k 0 < 256) → putRow (ofZ w64) 8 s at (rowAt (toZ w64) 8 n s at) ≡ s
-row-again-signed n s at h = row-again (toZ w64) (ofZ w64) 8 (λ x l. ofZ-toZ {w = w64} (record { fits = l })) n s at h

@@ -3,23 +3,23 @@ use mathlib.Core.List.{[]}
 use Rattle.tables.proofs.Tests.{flag-no, flag-yes}
 use Rattle.answers.specs.Outcome.{called}
 use Rattle.entry.specs.Deposit.{depositAct}
-use Rattle.calls.specs.Reply.{lends}
-use Rattle.calls.specs.Telling.{toldDeposited}
-use Rattle.snarevapor.proofs.Replies.{lent-room, reply-long, reply-short}
+use Rattle.lent.specs.Reply.{lends}
+use Rattle.lent.specs.Asks.{toldDeposited}
+use Rattle.lent.proofs.Replies.{lent-room, reply-long, reply-short}
 use borrow.Author.Needs.{needs}
 use Rattle.snarevapor.proofs.snarevapor_deposit.Statement.{statement}
 use Rattle.snarevapor.proofs.snarevapor_deposit.Tie as tie
 
-is-lent-requires : tie.Need-is-lent-requires
-is-lent-requires c κs = search needs
+is-roomy-requires : tie.Need-is-roomy-requires
+is-roomy-requires c κs = search needs
 
 returns : tie.Need-returns
 returns c =
     let s = c .before .before .before .before in
-    reply-short 8 toldDeposited (called (depositAct (s .args .member) (s .args .amount))) (lends (s .args .tables .now) [] (s .args .answer .now)) (flag-no (c .before .is-lent .ensures) (c .if1 .taken))
+    reply-short 8 toldDeposited (called (depositAct (s .args .member) (s .args .amount))) (lends (s .args .tables .now) [] (s .args .answer .now)) (flag-no (c .before .is-roomy .ensures) (c .if1 .taken))
 
 deposit-requires : tie.Need-deposit-requires
-deposit-requires c κs = lent-room _ _ 8 (flag-yes (c .before .before .before .is-lent .ensures) (c .before .before .if1 .left))
+deposit-requires c κs = lent-room _ _ 8 (flag-yes (c .before .before .before .is-roomy .ensures) (c .before .before .if1 .left))
 
 same-length : tie.Need-same-length
 same-length c = search needs
@@ -30,9 +30,9 @@ same-length-2 c = search needs
 returns-2 : tie.Need-returns-2
 returns-2 c =
     let s = c .before .before .before .before .before .before .before .before .before .before .before in
-    reply-long 8 toldDeposited (called (depositAct (s .args .member) (s .args .amount))) (lends (s .args .tables .now) [] (s .args .answer .now)) (flag-yes (c .before .before .before .before .before .before .before .before .is-lent .ensures) (c .before .before .before .before .before .before .before .if1 .left)) (c .before .before .before .before .deposit .ensures)
+    reply-long 8 toldDeposited (called (depositAct (s .args .member) (s .args .amount))) (lends (s .args .tables .now) [] (s .args .answer .now)) (flag-yes (c .before .before .before .before .before .before .before .before .is-roomy .ensures) (c .before .before .before .before .before .before .before .if1 .left)) (c .before .before .before .before .deposit .ensures)
 
 pub snarevapor-deposit-spec : {M : Type 1} → statement M
 snarevapor-deposit-spec =
     tie.close
-    (tie.spec is-lent-requires returns deposit-requires same-length same-length-2 returns-2)
+    (tie.spec is-roomy-requires returns deposit-requires same-length same-length-2 returns-2)

@@ -3,23 +3,23 @@ use mathlib.Core.List.{[]}
 use Rattle.tables.proofs.Tests.{flag-no, flag-yes}
 use Rattle.answers.specs.Outcome.{called}
 use Rattle.settling.specs.Release.{releaseAct}
-use Rattle.calls.specs.Reply.{lends}
-use Rattle.calls.specs.Telling.{toldReleased}
-use Rattle.snarevapor.proofs.Replies.{lent-room, reply-long, reply-short}
+use Rattle.lent.specs.Reply.{lends}
+use Rattle.lent.specs.Asks.{toldReleased}
+use Rattle.lent.proofs.Replies.{lent-room, reply-long, reply-short}
 use borrow.Author.Needs.{needs}
 use Rattle.snarevapor.proofs.snarevapor_release.Statement.{statement}
 use Rattle.snarevapor.proofs.snarevapor_release.Tie as tie
 
-is-lent-requires : tie.Need-is-lent-requires
-is-lent-requires c κs = search needs
+is-roomy-requires : tie.Need-is-roomy-requires
+is-roomy-requires c κs = search needs
 
 returns : tie.Need-returns
 returns c =
     let s = c .before .before .before .before in
-    reply-short 16 toldReleased (called (releaseAct (s .args .member))) (lends (s .args .tables .now) [] (s .args .answer .now)) (flag-no (c .before .is-lent .ensures) (c .if1 .taken))
+    reply-short 16 toldReleased (called (releaseAct (s .args .member))) (lends (s .args .tables .now) [] (s .args .answer .now)) (flag-no (c .before .is-roomy .ensures) (c .if1 .taken))
 
 release-requires : tie.Need-release-requires
-release-requires c κs = lent-room _ _ 16 (flag-yes (c .before .before .before .is-lent .ensures) (c .before .before .if1 .left))
+release-requires c κs = lent-room _ _ 16 (flag-yes (c .before .before .before .is-roomy .ensures) (c .before .before .if1 .left))
 
 same-length : tie.Need-same-length
 same-length c = search needs
@@ -30,9 +30,9 @@ same-length-2 c = search needs
 returns-2 : tie.Need-returns-2
 returns-2 c =
     let s = c .before .before .before .before .before .before .before .before .before .before .before in
-    reply-long 16 toldReleased (called (releaseAct (s .args .member))) (lends (s .args .tables .now) [] (s .args .answer .now)) (flag-yes (c .before .before .before .before .before .before .before .before .is-lent .ensures) (c .before .before .before .before .before .before .before .if1 .left)) (c .before .before .before .before .release .ensures)
+    reply-long 16 toldReleased (called (releaseAct (s .args .member))) (lends (s .args .tables .now) [] (s .args .answer .now)) (flag-yes (c .before .before .before .before .before .before .before .before .is-roomy .ensures) (c .before .before .before .before .before .before .before .if1 .left)) (c .before .before .before .before .release .ensures)
 
 pub snarevapor-release-spec : {M : Type 1} → statement M
 snarevapor-release-spec =
     tie.close
-    (tie.spec is-lent-requires returns release-requires same-length same-length-2 returns-2)
+    (tie.spec is-roomy-requires returns release-requires same-length same-length-2 returns-2)

@@ -1,0 +1,4 @@
+pub mod Lengths
+pub mod Back
+pub mod Replies
+pub mod Runs

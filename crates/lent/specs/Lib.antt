@@ -1,0 +1,4 @@
+pub mod Bytes
+pub mod Stands
+pub mod Reply
+pub mod Asks

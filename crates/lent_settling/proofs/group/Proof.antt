@@ -1,0 +1,113 @@
+-- `lent_settling::group` meets its contract: no loop; what the house did to the lists is put back where it accepts.
+use mathlib.Core.Path.{refl}
+use mathlib.Core.List.{[]}
+use Rattle.tables.proofs.Same.{tables-same}
+use Rattle.lent.specs.Reply.{lends}
+use Rattle.answers.specs.Outcome.{called}
+use Rattle.settling.specs.Group.{groupAct}
+use Rattle.lent.specs.Asks.{toldGrouped}
+use Rattle.lent.proofs.Runs.{accepted, refused, put-none}
+use borrow.Author.Needs.{needs}
+use Rattle.lent_settling.proofs.group.Statement.{statement}
+use Rattle.lent_settling.proofs.group.Tie as tie
+
+accounts-of-requires : tie.Need-accounts-of-requires
+accounts-of-requires c κs = search needs
+
+counters-of-requires : tie.Need-counters-of-requires
+counters-of-requires c κs = search needs
+
+pays-of-requires : tie.Need-pays-of-requires
+pays-of-requires c κs = search needs
+
+slice-aggregate-group : tie.Need-slice-aggregate-group
+slice-aggregate-group c = search needs
+
+slice-aggregate-group-2 : tie.Need-slice-aggregate-group-2
+slice-aggregate-group-2 c = search needs
+
+slice-aggregate-group-3 : tie.Need-slice-aggregate-group-3
+slice-aggregate-group-3 c = search needs
+
+group-requires : tie.Need-group-requires
+group-requires c κs = search needs
+
+enum-known-r : tie.Need-enum-known-r
+enum-known-r c = search needs
+
+slice-aggregate-store : tie.Need-slice-aggregate-store
+slice-aggregate-store c = search needs
+
+slice-aggregate-store-2 : tie.Need-slice-aggregate-store-2
+slice-aggregate-store-2 c = search needs
+
+slice-aggregate-store-3 : tie.Need-slice-aggregate-store-3
+slice-aggregate-store-3 c = search needs
+
+store-requires : tie.Need-store-requires
+store-requires c κs = search needs
+
+pair-requires : tie.Need-pair-requires
+pair-requires c κs = search needs
+
+enum-known-r-2 : tie.Need-enum-known-r-2
+enum-known-r-2 c = search needs
+
+code-requires : tie.Need-code-requires
+code-requires c κs = search needs
+
+same-length : tie.Need-same-length
+same-length c = search needs
+
+same-length-2 : tie.Need-same-length-2
+same-length-2 c = search needs
+
+returns : tie.Need-returns
+returns c =
+    let s = c .before .before .before .before .before .before .before .before .before .before .before .before .before .before .before .before .before .before .before .before .before .before .before .before .before .before .before .before .before .before in
+    accepted toldGrouped (called (groupAct (s .args .k .now))) (lends (s .args .s .now) [] (s .args .answer .now))
+    (tables-same (c .before .before .before .before .before .before .before .before .before .before .before .before .before .before .before .before .before .before .before .before .before .before .before .before .before .accounts-of .ensures .0) (c .before .before .before .before .before .before .before .before .before .before .before .before .before .before .before .before .before .before .before .before .before .before .before .counters-of .ensures .0) (c .before .before .before .before .before .before .before .before .before .before .before .before .before .before .before .before .before .before .before .before .before .pays-of .ensures .0))
+    (c .before .before .before .before .before .before .before .before .before .before .before .before .before .before .before .before .before .group .ensures)
+    (c .before .before .before .before .before .before .before .before .before .before .before .before .r .given .1)
+    refl
+    (c .before .before .before .before .before .before .store .ensures)
+    (put-none 2 [])
+    (c .before .before .pair .ensures)
+
+same-length-3 : tie.Need-same-length-3
+same-length-3 c = search needs
+
+returns-2 : tie.Need-returns-2
+returns-2 c =
+    let s = c .before .before .before .before .before .before .before .before .before .before .before .before .before .before .before .before .before .before .before .before in
+    refused toldGrouped (called (groupAct (s .args .k .now))) (lends (s .args .s .now) [] (s .args .answer .now))
+    (tables-same (c .before .before .before .before .before .before .before .before .before .before .before .before .before .before .before .accounts-of .ensures .0) (c .before .before .before .before .before .before .before .before .before .before .before .before .before .counters-of .ensures .0) (c .before .before .before .before .before .before .before .before .before .before .before .pays-of .ensures .0))
+    (c .before .before .before .before .before .before .before .group .ensures)
+    (c .before .before .r2 .given .1)
+    refl
+    (c .code .ensures)
+
+pub group-spec : {M : Type 1} → statement M
+group-spec =
+    tie.close
+    (tie.spec
+    accounts-of-requires
+    counters-of-requires
+    pays-of-requires
+    slice-aggregate-group
+    slice-aggregate-group-2
+    slice-aggregate-group-3
+    group-requires
+    enum-known-r
+    slice-aggregate-store
+    slice-aggregate-store-2
+    slice-aggregate-store-3
+    store-requires
+    pair-requires
+    enum-known-r-2
+    code-requires
+    same-length
+    same-length-2
+    returns
+    same-length-3
+    returns-2)
