@@ -5,4 +5,6 @@ pub mod Openings
 pub mod Closing
 pub mod Demands
 pub mod Ends
+pub mod Printed
+pub mod Splits
 pub mod Examples

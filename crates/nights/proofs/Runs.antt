@@ -63,7 +63,7 @@ pub record Gone (d : Night) (qs : List Request) (k : ℕ) (e : Night) : Type 0 w
   pub after : e .tables ≡ afterAll qs (d .tables)
 
 module _ (d : Night) (l : Line) (day : d .stage ≡ G.Day) (few : d .lines < mostLines) where
-  step-day : stepOf d l ≡ finished (after d (dayDoes (d .lines + 1) (d .tables) (entryIn l)))
+  pub step-day : stepOf d l ≡ finished (after d (dayDoes (d .lines + 1) (d .tables) (entryIn l)))
   step-day = rw (day, lt-ltb (d .lines) mostLines few)
 
   pub line-gone : {n : ℕ} → Holds (d .tables) → membersIn (d .tables) ≡ n → isEnd (entryIn l) ≡ false → Gone d (requestsOf n (entryIn l)) 1 (stepOf d l)
