@@ -18,10 +18,9 @@ use Rattle.entry.specs.Submit.{submitAct}
 use Rattle.settling.specs.Release.{releaseAct}
 use Rattle.settling.specs.Group.{groupAct, bookAct}
 use Rattle.resolving.specs.Resolve.{resolveAct}
-use Rattle.lists.specs.Bytes.{tablesIn, lent, signedIn, countsIn}
-use Rattle.calls.specs.Reply.{Lent, Told, yes, no, written, onBytes, reply}
-use Rattle.calls.specs.Telling.{toldOpened, toldDeposited, toldSubmitted, toldReleased, toldGrouped, toldResolved}
-use Rattle.hosts.specs.Hosts.{Ask, opens, deposits, submits, releases, groups, resolves, replied, least}
+use Rattle.lent.specs.Bytes.{tablesIn, lent, signedIn, countsIn}
+use Rattle.lent.specs.Reply.{Lent, Told, yes, no, written, onBytes, reply}
+use Rattle.lent.specs.Asks.{toldOpened, toldDeposited, toldSubmitted, toldReleased, toldGrouped, toldResolved, Ask, opens, deposits, submits, releases, groups, resolves, replied, least}
 use Rattle.demands.specs.Refusals.{FirstOf, codeIn, judgedOn}
 
 -- ---- the first code that applies

@@ -31,14 +31,14 @@ use Rattle.answers.specs.declared.Resolved.the-variants.{Done}
 use Rattle.opening.specs.Open.{entry}
 use Rattle.resolving.specs.Resolve.{resolveAct}
 use Rattle.words.specs.Row.{putRow, plain}
-use Rattle.lists.specs.Bytes.{tablesIn, accountsIn, signedIn, lent}
-use Rattle.calls.specs.Reply.{Lent}
-use Rattle.calls.specs.Telling.{partsOf}
+use Rattle.lent.specs.Bytes.{tablesIn, accountsIn, signedIn, lent}
+use Rattle.lent.specs.Reply.{Lent}
+use Rattle.lent.specs.Asks.{partsOf, Ask, opens, resolves, replied, least}
 use Rattle.days.specs.Days.{Request, afterAll, made, openingOf, Begun, Ended, Equal, queueIn}
 use Rattle.days.proofs.Sums.{day-money, chain-covered, chain-lines}
 use Rattle.days.proofs.Openings.{begun-day, day-ends-as-at-once, days-end-equal, days-end-queues}
-use Rattle.hosts.specs.Hosts.{Ask, opens, resolves, replied, least, Call, Chain, notes, Day, openingIn}
-use Rattle.hosts.proofs.Links.{Stands}
+use Rattle.hosts.specs.Hosts.{Call, Chain, notes, Day, openingIn}
+use Rattle.lent.specs.Stands.{Stands}
 use Rattle.hosts.proofs.Demands.{refused-changes-nothing, accepted-stands, day-sum, day-covered, ends-as-at-once, days-end, days-queues}
 use Rattle.cut.specs.Lines.{Line}
 use Rattle.print.specs.declared.Says.the-variants.{Money}

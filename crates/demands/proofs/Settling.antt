@@ -22,12 +22,13 @@ use Rattle.answers.proofs.Outcomes.{judgement-fine}
 use Rattle.resolving.specs.Resolve.{resolveAct, largestIn, told}
 use Rattle.resolving.proofs.Resolves.{largest-is, largest-books, resolve-verdict}
 use Rattle.words.specs.Row.{putRow, plain}
-use Rattle.lists.specs.Bytes.{tablesIn, countsIn, lent}
-use Rattle.calls.specs.Reply.{Lent, lends, written, onBytes}
-use Rattle.calls.specs.Telling.{toldResolved, partsOf}
-use Rattle.hosts.specs.Hosts.{resolves, Call}
+use Rattle.lent.specs.Bytes.{tablesIn, countsIn, lent}
+use Rattle.lent.specs.Reply.{Lent, lends, written, onBytes}
+use Rattle.lent.specs.Asks.{toldResolved, partsOf, resolves}
+use Rattle.hosts.specs.Hosts.{Call}
 use Rattle.hosts.proofs.Replies.{called-accepted}
-use Rattle.hosts.proofs.Links.{Stands, linked}
+use Rattle.lent.specs.Stands.{Stands}
+use Rattle.hosts.proofs.Links.{linked}
 use Rattle.demands.specs.Settles.{Settles}
 
 number-named : (n : ℕ) (H : House) (z : Counts) → numberOf (named (verdict n H z)) ≡ verdict n H z

@@ -15,9 +15,9 @@ use Rattle.entry.specs.Submit.{submitAct}
 use Rattle.settling.specs.Release.{releaseAct}
 use Rattle.settling.specs.Group.{groupAct}
 use Rattle.resolving.specs.Resolve.{resolveAct}
-use Rattle.lists.specs.Bytes.{tablesIn, signedIn, countsIn}
-use Rattle.calls.specs.Reply.{Lent}
-use Rattle.hosts.specs.Hosts.{Ask, opens, deposits, submits, releases, groups, resolves}
+use Rattle.lent.specs.Bytes.{tablesIn, signedIn, countsIn}
+use Rattle.lent.specs.Reply.{Lent}
+use Rattle.lent.specs.Asks.{Ask, opens, deposits, submits, releases, groups, resolves}
 
 -- of the codes ts in their order, the condition of r holds, and that of none before it
 pub record FirstOf (r : Refusal) (ts : List Test) : Type 0 where
