@@ -1,5 +1,5 @@
 /*
- * Snarevapor: a settlement queue for one house, as a static library. The archive is for x86-64 Linux.
+ * Snarevapor: a settlement queue for one house, as a static library. The archive is for x86-64 Linux, the header for C99 and C++11.
  *
  * A house has members, each with a balance in cents and a credit line. Members queue payments to each other. A payment is settled alone
  * (release), in a set that you propose (group), or in the largest allowed set (resolve): a count for each member, taken from the head of

@@ -52,7 +52,9 @@ installed() {
 
 on_installed() {
     # shellcheck disable=SC2046,SC2086
-    gcc $strict examples/small.c $(flags) -o "$work/on-installed" && "$work/on-installed" | cmp - "$work/small.out"
+    gcc $strict examples/small.c $(flags) -o "$work/on-installed" && "$work/on-installed" | cmp - "$work/small.out" &&
+        g++ -std=c++11 -Wall -Wextra -Wpedantic -Werror -x c++ examples/small.c -x none $(flags) -o "$work/in-c++" &&
+        "$work/in-c++" | cmp - "$work/small.out"
 }
 
 man_pages() { [ -z "$(groff -man -ww -z host/*.1 2>&1)" ]; }

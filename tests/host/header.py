@@ -72,7 +72,8 @@ for path in sorted(glob.glob("host/*.[ch]")):
 
 # What a host was built on changes only with the version: all numbers of the header, as each version has them, summed up.
 SUMS = {1: "935e428f2b91c303"}
-every = sorted(set(re.findall(r"\bSNAREVAPOR_[A-Z_]+\b", re.sub(r"/\*.*?\*/", "", header, flags=re.S))) - {"SNAREVAPOR_H", "SNAREVAPOR_VERSION"})
+code = re.sub(r"/\*.*?\*/", "", header, flags=re.S)
+every = sorted(set(re.findall(r"\bSNAREVAPOR_[A-Z_]+\b", code)) - {"SNAREVAPOR_H", "SNAREVAPOR_VERSION"})
 with open(f"{FOLDER}/every.c", "w") as file:
     file.write('#include "snarevapor.h"\n#include <stdio.h>\nint main(void) {\n')
     file.writelines(f'    printf("{name} %lld\\n", (long long){name});\n' for name in every)

@@ -88,10 +88,10 @@ def forms(folder):
     """A line that is not quite in the day file's form is passed over, as nightsheet does."""
     begin = "house\t1\t2\nmember\t1\t500\t0\nmember\t2\t0\t100\npay\t1\t1\t2\t5\n"
     for line in ["deposit\t1\t7", "deposit 1 7", "deposit\t1 7", "deposit\t\t1\t7", "\tdeposit\t1\t7", "deposit\t1\t7\t", "deposit\t1\t7 ",
-                 "deposit\t1\t7\r", "deposit\t1\t07", "deposit\t1\t+7", "deposit\t1\t-7", "deposit\t1", "deposit\t1\t7\t7", "Deposit\t1\t7",
-                 "pay\t1\t2\t7", "pay\t1\t2\t2\t7", "pay\t1\t2\t2\t7\t", "release\t1", "release 1", "release\t01", "group\t1\t0", "group\t1\t0\t",
-                 "group 1 0", "group", "resolve", "resolve\t", " resolve", "resolve ", "show", "show\t1", "help", "end\t", " end", "END", "house\t1\t2",
-                 "member\t1\t5\t0", "", " ", "\t", "\0", "res\0olve", "resolve\0"]:
+                 "deposit\t1\t7\r", "deposit\t1\t07", "deposit\t1\t+7", "deposit\t1\t-7", "deposit\t1", "deposit\t1\t7\t7",
+                 "Deposit\t1\t7", "pay\t1\t2\t7", "pay\t1\t2\t2\t7", "pay\t1\t2\t2\t7\t", "release\t1", "release 1", "release\t01",
+                 "group\t1\t0", "group\t1\t0\t", "group 1 0", "group", "resolve", "resolve\t", " resolve", "resolve ", "show", "show\t1",
+                 "help", "end\t", " end", "END", "house\t1\t2", "member\t1\t5\t0", "", " ", "\t", "\0", "res\0olve", "resolve\0"]:
         text = (begin + line + "\ndeposit\t2\t9\n").encode()
         write(folder + "/form", text)
         same_tables(folder + "/form", text, f"line {line!r}", CHECKED)
@@ -351,7 +351,8 @@ def changed(folder):
             before = read(path) if os.path.exists(path) else None
             terminal.type(typed)
             said, status = terminal.close()
-            check(status == 2 and "deposited" not in said and "somebody else" in said, f"after {change} the floor says {said}, status {status}")
+            right = status == 2 and "deposited" not in said and "somebody else" in said
+            check(right, f"after {change} the floor says {said}, status {status}")
             check((read(path) if os.path.exists(path) else None) == before, f"after {change} the floor still writes")
 
 

@@ -19,7 +19,7 @@ def run(command, typed, folder, status):
     if pid == 0:
         os.chdir(folder)
         os.execvp("sh", ["sh", "-c", f"(exit {status}); {command}"])
-    said, typed, last = "", list(typed), time.time()
+    said, typed, last, mark = "", list(typed), time.time(), -1
     while True:
         ready, _, _ = select.select([screen], [], [], 0.2)
         if ready:
@@ -30,12 +30,12 @@ def run(command, typed, folder, status):
             if not new:
                 break
             said, last = said + new.decode(errors="replace").replace("\r\n", "\n"), time.time()
-        if PROMPT.search(said) and typed:
+        if PROMPT.search(said) and len(said) > mark and typed:
             word = typed.pop(0)
+            said += "^D" if word == "^D" else ""  # the one key that no terminal shows
+            mark = len(said)
             os.write(screen, KEYS.get(word, word.encode() + b"\n"))
-            if word == "^D":
-                said += "^D"
-        elif time.time() - last > (1 if PROMPT.search(said) else PATIENCE):
+        elif time.time() - last > (1 if PROMPT.search(said) and not typed else PATIENCE):
             os.kill(pid, signal.SIGKILL)
     os.close(screen)
     status = os.waitstatus_to_exitcode(os.waitpid(pid, 0)[1])
