@@ -11,6 +11,7 @@ passed=0 failed=0 store=
 archive=target/staticlib/libsnarevapor.a
 work=$(mktemp -d) || exit 2
 trap 'rm -rf "$work"' EXIT
+export ASAN_OPTIONS=exitcode=99 UBSAN_OPTIONS=exitcode=99 # a status that the floor has not
 
 check() { # WHAT COMMAND..
     what=$1

@@ -116,6 +116,23 @@ def damaged(dice, text):
     return bytes(text).replace(b"\n\0", b"\nx")  # what a crash of the floor leaves is tried elsewhere
 
 
+def garbage(folder):
+    """Bytes of any kind, typed or in the file: the floor ends with one of its own statuses, and says nothing on standard error."""
+    words = [b"house", b"member", b"pay", b"deposit", b"release", b"group", b"resolve", b"show", b"help", b"end", b"1", b"2", b"3", b"0", b"-5",
+             b"300", b"65536", b"1000000000000", b"999999999999999999", b"9999999999999999999", b"x", b"\0", b"\xff" * 300, b"y", b"n"]
+    for seed in range(SEED, SEED + SEEDS // 2):
+        dice = random.Random(seed)
+        opening = "".join(line + "\n" for line in made_up(dice, 5)).encode() if dice.random() < 0.8 else b""
+        text = opening + b"".join(dice.choice(words) + dice.choice(b"\t \t\t\n\n\r\0".decode()).encode() for _ in range(200))
+        path = folder + "/garbage.day"
+        write(path, text if dice.random() < 0.3 else b"")
+        for words_given in [[path], ["--ask"], []]:
+            done = subprocess.run([CHECKED, *words_given], input=text, stdout=subprocess.PIPE, stderr=subprocess.PIPE)
+            check(done.returncode in [0, 1] and done.stderr == b"", f"garbage of seed {seed}: status {done.returncode}, {done.stderr!r}")
+        if read(path):
+            same_tables(path, read(path), f"garbage of seed {seed}", CHECKED)
+
+
 # ---- Nights made up from a seed
 
 
@@ -400,7 +417,7 @@ def main():
         forms(folder)
         for seed in range(SEED, SEED + SEEDS):
             killed(folder, seed)
-        for test in [synced, stopped, stopped_while_mending, cannot_grow, in_use, changed, lost_connection, million, lost_screen]:
+        for test in [garbage, synced, stopped, stopped_while_mending, cannot_grow, in_use, changed, lost_connection, million, lost_screen]:
             test(folder)
     print(f"{passed} passed, {failed} failed")
     sys.exit(failed > 0)
