@@ -39,7 +39,8 @@ module _ {T : Tables} (h : Holds T) where
   -- those that stay fill the places,
   pub closed-booked : (z : Counts) → closedUp (waitingIn T) (staying z (wordsIn T)) (T .pays) ≡ bookedIn T z .pays
   unfolding bookedIn
-  closed-booked z = closed-fill (waitingIn T) (staying z (wordsIn T)) (T .pays) (omega (arith, staying-short (wordsIn T) z, length-take (waitingIn T) (T .pays)))
+  closed-booked z =
+      closed-fill (waitingIn T) (staying z (wordsIn T)) (T .pays) (omega (arith, staying-short (wordsIn T) z, length-take (waitingIn T) (T .pays)))
       (omega arith) places (h .counters .room) (h .places .deep) (h .places .no-payment)
 
   -- and the amounts of those that leave are what the members send
@@ -63,4 +64,6 @@ countable {T} {counts} g fits = let h = g .holds in record {
 pub positions-booked : {T : Tables} {counts : List ℕ} {xs : List ℤ} → Holds T → Weighed T counts xs
     → fill members (λ i. getD xs i (pos 0)) (T .accounts) ≡ bookedIn T (listed counts) .accounts
 unfolding bookedIn
-positions-booked {T} {counts} {xs} h w = fill-cong (λ i. getD xs i (pos 0)) (position (membersIn T) (houseIn T) (listed counts)) (T .accounts) members (omega (arith, h .accounts .long)) (w .weighs) (pos 0)
+positions-booked {T} {counts} {xs} h w =
+    fill-cong (λ i. getD xs i (pos 0)) (position (membersIn T) (houseIn T) (listed counts)) (T .accounts) members (omega (arith, h .accounts .long))
+    (w .weighs) (pos 0)

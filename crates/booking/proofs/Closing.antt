@@ -93,7 +93,8 @@ module _ {n : ℕ} {p₀ l₀ p l : List ℕ} {more paid i to : ℕ} (g : Words 
         ∙ append-snoc (take to p) (getD p i 0) (staying (listed l) (drop (i + 1) (take n p₀)))
         ∙ ap (λ r. take to p ++ r) (sym (ap (staying (listed l)) turn ∙ staying-none (listed l) (getD p i 0) (drop (i + 1) (take n p₀)) e))
         ∙ c .kept;
-    gone = ap (λ ws. paid + total amountOf ws) (sym (ap (leaving (listed l)) turn ∙ leaving-none (listed l) (getD p i 0) (drop (i + 1) (take n p₀)) e)) ∙ c .gone;
+    gone =
+        ap (λ ws. paid + total amountOf ws) (sym (ap (leaving (listed l)) turn ∙ leaving-none (listed l) (getD p i 0) (drop (i + 1) (take n p₀)) e)) ∙ c .gone;
     most = omega (arith, c .most);
   }
 
@@ -114,13 +115,15 @@ module _ {n : ℕ} {p₀ l₀ p l : List ℕ} {more paid i to : ℕ} (g : Words 
     kept = ap (λ r. take to p ++ r) (sym (ap (staying (listed l)) turn ∙ staying-one l (getD p i 0) (drop (i + 1) (take n p₀)) seat ne)) ∙ c .kept;
     gone =
         let e : total amountOf (leaving (listed l) (drop i (take n p₀)))
-        ≡ amountOf (getD p i 0) + total amountOf (leaving (listed (set l (payerOf (getD p i 0)) (getD l (payerOf (getD p i 0)) 0 - 1))) (drop (i + 1) (take n p₀))) =
+        ≡ amountOf (getD p i 0) + total amountOf
+        (leaving (listed (set l (payerOf (getD p i 0)) (getD l (payerOf (getD p i 0)) 0 - 1))) (drop (i + 1) (take n p₀))) =
         ap (total amountOf) (ap (leaving (listed l)) turn ∙ leaving-one l (getD p i 0) (drop (i + 1) (take n p₀)) seat ne) in
         omega (arith, c .gone);
     most = omega (arith, c .most, closing-small);
   }
 
-module _ {n : ℕ} {p₀ l₀ p l : List ℕ} {more end paid i to : ℕ} (g : Words n p₀) (e : Ends n more end) (h : end ≤ i) (c : Closing n p₀ l₀ p l more paid i to) where
+module _ {n : ℕ} {p₀ l₀ p l : List ℕ} {more end paid i to : ℕ} (g : Words n p₀) (e : Ends n more end) (h : end ≤ i)
+    (c : Closing n p₀ l₀ p l more paid i to) where
   none : leaving (listed l) (drop i (take n p₀)) ≡ []
   none = none-leaves p₀ l i (c .members) (c .still) e h
 

@@ -30,8 +30,11 @@ every-same f g (suc n) e = rw (every-same f g n (λ i h. e i (omega arith)), e n
 
 -- the test of the positions is the rule's, of each member
 pub covered-is : {T : Tables} {counts : List ℕ} {positions : List ℤ} → Holds T → Weighed T counts positions
-    → coveredAll (membersIn T) positions (T .accounts) ≡ every (λ i. leZ (pos 0) (position (membersIn T) (houseIn T) (listed counts) i +ℤ pos (houseIn T .line i))) (membersIn T)
-covered-is {T} {counts} {positions} h w = every-same (coveredAt positions (T .accounts)) (λ i. leZ (pos 0) (position (membersIn T) (houseIn T) (listed counts) i +ℤ pos (houseIn T .line i))) (membersIn T)
+    → coveredAll (membersIn T) positions (T .accounts) ≡ every
+    (λ i. leZ (pos 0) (position (membersIn T) (houseIn T) (listed counts) i +ℤ pos (houseIn T .line i))) (membersIn T)
+covered-is {T} {counts} {positions} h w =
+    every-same (coveredAt positions (T .accounts)) (λ i. leZ (pos 0) (position (membersIn T) (houseIn T) (listed counts) i +ℤ pos (houseIn T .line i)))
+    (membersIn T)
     (λ i l.
     let q : i < members = omega (arith, h .counters .few) in
     ap (λ x. leZ (pos 0) (x +ℤ lineOf (T .accounts) i)) (w .weighs i q)

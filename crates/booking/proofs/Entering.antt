@@ -158,7 +158,8 @@ module _ {used more i : ℕ} {p l₀ l : List ℕ} {xs₀ xs : List ℤ} (g : En
       arith,
       u .near k q,
       g .small i h,
-      moved-far xs (payerOf (getD p i 0)) (payeeOf (getD p i 0)) (amountOf (getD p i 0)) k (rw (u .each) (payer-under (getD p i 0))) (rw (u .each) (payee-under (getD p i 0))),
+      moved-far xs (payerOf (getD p i 0)) (payeeOf (getD p i 0)) (amountOf (getD p i 0)) k (rw (u .each) (payer-under (getD p i 0)))
+          (rw (u .each) (payee-under (getD p i 0))),
     );
   }
 

@@ -48,11 +48,14 @@ fill-whole d l r n e f = ext-getD d (fill n (λ i. getD l i d) r) l (fill-length
 
 -- a list filled with one value
 pub fill-same : {A : Type 0} (v : A) (l : List A) → fill (length l) (λ i. v) l ≡ replicate (length l) v
-fill-same v l = ext-getD v (fill (length l) (λ i. v) l) (replicate (length l) v) (fill-length (λ i. v) l (length l) (omega arith) ∙ sym (length-replicate (length l) v))
-    (λ i h. let q : i < length l = omega (arith, fill-length (λ i. v) l (length l) (omega arith)) in fill-at (λ i. v) l (length l) i v q ∙ sym (getD-replicate (length l) i v v q))
+fill-same v l =
+    ext-getD v (fill (length l) (λ i. v) l) (replicate (length l) v) (fill-length (λ i. v) l (length l) (omega arith) ∙ sym (length-replicate (length l) v))
+    (λ i h. let q : i < length l = omega (arith, fill-length (λ i. v) l (length l) (omega arith)) in fill-at (λ i. v) l (length l) i v q
+    ∙ sym (getD-replicate (length l) i v v q))
 
 -- the first n places of a list, filled as a list of their own and put back
-pub fill-part : {A : Type 0} (d : A) (n : ℕ) (f g : ℕ → A) (l : List A) → n ≤ length l → ((k : ℕ) → k < n → f k ≡ g k) → fill n f (take n l) ++ drop n l ≡ fill n g l
+pub fill-part : {A : Type 0} (d : A) (n : ℕ) (f g : ℕ → A) (l : List A) → n ≤ length l → ((k : ℕ) → k < n → f k ≡ g k)
+    → fill n f (take n l) ++ drop n l ≡ fill n g l
 unfolding fill
 fill-part d n f g l h e =
     ap (λ r. (listing n f ++ r) ++ drop n l) (drop-of-length-le (take n l) {i = n} (omega (arith, length-take n l)))

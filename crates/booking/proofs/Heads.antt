@@ -218,7 +218,8 @@ module _ {T : Tables} (h : Holds T) {i k : ℕ} (q : i < members) (g : HeadAt (w
   pub accounts-head : paid (T .accounts) (getD (T .pays) k 0) ++ drop members (T .accounts) ≡ bookedIn T (headAlone i) .accounts
   unfolding bookedIn
   accounts-head =
-      is-fill (position (membersIn T) (houseIn T) (headAlone i)) (T .accounts) members (xs ++ drop members (T .accounts)) (pos 0) (omega (arith, h .accounts .long))
+      is-fill (position (membersIn T) (houseIn T) (headAlone i)) (T .accounts) members (xs ++ drop members (T .accounts)) (pos 0)
+      (omega (arith, h .accounts .long))
       (length-append xs (drop members (T .accounts)) ∙ omega (arith, each, length-drop members (T .accounts), h .accounts .long))
       (λ j r. List·getD-append xs (drop members (T .accounts)) (pos 0) j (omega (arith, each)) ∙ balance-head j r)
       behind
@@ -282,12 +283,15 @@ counters-head c i b q =
 
     at : (j : ℕ) → getD (set c (settledAt + i) (settledOf c i + 1)) j 0 ≡ getD (fillAt settledAt members f c) j 0
     at j = elim (ℕ-discrete j (settledAt + i)) [
-      | yes e ↦ rw e (getD-set-same c (settledAt + i) (settledOf c i + 1) 0 (omega arith) ∙ sym (in-fill settledAt members f c fits i 0 q ∙ ap (λ n. settledOf c i + n) (put-at none i 1)))
+      | yes e ↦ rw e (getD-set-same c (settledAt + i) (settledOf c i + 1) 0 (omega arith)
+          ∙ sym (in-fill settledAt members f c fits i 0 q ∙ ap (λ n. settledOf c i + n) (put-at none i 1)))
       | no e ↦ getD-set-other c (settledAt + i) j (settledOf c i + 1) 0 e ∙ sym (other j e (decLt j settledAt) (decLt j (settledAt + members)))
     ]
 
     block : set c (settledAt + i) (settledOf c i + 1) ≡ fillAt settledAt members f c
-    block = ext-getD 0 (set c (settledAt + i) (settledOf c i + 1)) (fillAt settledAt members f c) (simp length-set (sym (fill-at-length settledAt members f c fits))) (λ j l. at j)
+    block =
+        ext-getD 0 (set c (settledAt + i) (settledOf c i + 1)) (fillAt settledAt members f c)
+        (simp length-set (sym (fill-at-length settledAt members f c fits))) (λ j l. at j)
 
 -- the waiting are counted at another place
 pub waiting-kept : (c : List ℕ) (i v : ℕ) → getD (set c (settledAt + i) v) 1 0 ≡ waitingOf c

@@ -57,7 +57,9 @@ module _ {T : Tables} (h : Holds T) (z : Counts) where
 
     -- as many wait as stay
     waiting-booked : waitingIn (bookedIn T z) ≡ length (staying z (wordsIn T))
-    waiting-booked = waiting-set h z ∙ ap (λ k. waitingIn T - k) (counts-sum (membersIn T) z (h .counters .few) (b .past)) ∙ less (length (staying z (wordsIn T))) (sum (membersIn T) z) (waitingIn T) stay
+    waiting-booked =
+        waiting-set h z ∙ ap (λ k. waitingIn T - k) (counts-sum (membersIn T) z (h .counters .few) (b .past))
+        ∙ less (length (staying z (wordsIn T))) (sum (membersIn T) z) (waitingIn T) stay
       where
         less : (x y w : ℕ) → x + y ≡ w → w - y ≡ x
         less x y w e = omega arith
@@ -133,7 +135,8 @@ module _ {T : Tables} (h : Holds T) (z : Counts) where
         deep = subst (λ k. places ≤ k) (sym (places-length h z)) (h .places .deep);
         words = λ k l. let q : k < length (staying z (wordsIn T)) = subst (λ n. k < n) waiting-booked l in
             subst (λ n. Payment n (getD (bookedIn T z .pays) k 0)) (sym booked-count)
-            (subst (Payment (membersIn T)) (sym (place-booked h z k (omega (arith, few)))) (staying-each (Payment (membersIn T)) (wordsIn T) z (holds-payment h) k q));
+            (subst (Payment (membersIn T)) (sym (place-booked h z k (omega (arith, few))))
+            (staying-each (Payment (membersIn T)) (wordsIn T) z (holds-payment h) k q));
         no-payment = λ k l q. place-cleared h z k (subst (λ n. n ≤ k) waiting-booked l) q;
       };
       numbers = record {

@@ -1,11 +1,11 @@
 -- Places that move down by one: a turn, a part at a time, and all of them.
 use mathlib.Core.Path.{_≡_, refl, sym, ap, _∙_}
-use mathlib.Core.List.{List, [], _∷_, _++_}
+use mathlib.Core.List.{List, [], _++_}
 use Prim.Native.Nat.{ℕ, _+_, _-_, _≤_, _<_}
 use native.Mathlib.Decide.{ℕ-discrete, decLt}
 use native.Mathlib.Omega.{arith}
 use lib.ListN.{length, getD, set, take, drop, replicate, length-take, length-drop, length-set, length-append, List·getD-append}
-use lib.Seq.{ext-getD, getD-take, getD-drop, getD-set-same, getD-set-other, length-take-le, drop-drop, getD-append-add}
+use lib.Seq.{ext-getD, getD-take, getD-drop, getD-set-same, getD-set-other, length-take-le, getD-append-add}
 use Rattle.booking.specs.Steps.{Lowered}
 
 -- no place has moved,

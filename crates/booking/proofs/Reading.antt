@@ -55,7 +55,8 @@ module _ {T : Tables} (h : Holds T) (z : Counts) where
   -- each member has its count settled,
   pub settled-booked : (i : ℕ) → i < members → settledOf (bookedIn T z .counters) i ≡ settledOf (T .counters) i + z i
   unfolding bookedIn
-  settled-booked i q = other (settledAt + i) (λ e. absurd (omega arith)) ∙ in-fill settledAt members (λ i. settledOf (T .counters) i + z i) (T .counters) fits i 0 q
+  settled-booked i q =
+      other (settledAt + i) (λ e. absurd (omega arith)) ∙ in-fill settledAt members (λ i. settledOf (T .counters) i + z i) (T .counters) fits i 0 q
 
   -- and each other counter is as it was
   pub counter-before : (k : ℕ) → k ≢ 1 → k < settledAt → getD (bookedIn T z .counters) k 0 ≡ getD (T .counters) k 0

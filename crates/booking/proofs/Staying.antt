@@ -19,7 +19,8 @@ use Rattle.booking.specs.Steps.{closedUp}
 -- ---- what stays
 
 -- what holds of each payment of a table holds of each that stays,
-pub staying-each : (P : ℕ → Type 0) (t : List ℕ) (z : Counts) → ((k : ℕ) → k < length t → P (getD t k 0)) → (k : ℕ) → k < length (staying z t) → P (getD (staying z t) k 0)
+pub staying-each : (P : ℕ → Type 0) (t : List ℕ) (z : Counts) → ((k : ℕ) → k < length t → P (getD t k 0)) → (k : ℕ) → k < length (staying z t)
+    → P (getD (staying z t) k 0)
 staying-each P [] z f = f
 staying-each P (w ∷ ws) z f = go (z (payerOf w)) (λ y. staying-each P ws y (λ k h. f (suc k) (omega arith)))
   where

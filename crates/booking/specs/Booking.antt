@@ -3,14 +3,14 @@ use mathlib.Core.Path.{_≡_}
 use mathlib.Core.Bool.{Bool}
 use mathlib.Core.Logic.{_≢_}
 use mathlib.Core.List.{List}
-use Prim.Native.Nat.{ℕ, _+_, _-_, _≤_, _<_}
+use Prim.Native.Nat.{ℕ, _+_, _-_, _<_}
 use lib.IntN.{ℤ, pos, _+ℤ_}
 use lib.Signed.{leZ}
 use lib.ListN.{length, getD, set}
 use Rattle.rule.specs.Lists.{fill, fillAt}
 use Rattle.rule.specs.Kernel.{Counts, none, put, sum, Under}
 use Rattle.rule.specs.Payment.{payerOf}
-use Rattle.rule.specs.House.{House, waits, position}
+use Rattle.rule.specs.House.{waits, position}
 use Rattle.rule.specs.Table.{staying}
 use Rattle.tables.specs.Sizes.{members, places}
 use Rattle.tables.specs.Layout.{Tables, tables, settledAt, membersIn, wordsIn, houseIn, waitingOf, settledOf, lineOf}

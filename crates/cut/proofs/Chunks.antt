@@ -81,17 +81,21 @@ module _ {D : Type 0} (step : D → Line → D) where
 
   -- what eating finds, fed
   eaten-by : (b : ℕ) (s : List ℕ) (h : Held) (d : D) (p : Bool)
-      → ((k : Held) → feedOf step s (record { day = d; held = k }) ≡ cond (eatOf s k .done) (feedOf step (drop (eatOf s k .used) s) (record { day = step d (lineOf (eatOf s k .held)); held = none })) (record { day = d; held = eatOf s k .held }))
+      → ((k : Held) → feedOf step s (record { day = d; held = k }) ≡ cond (eatOf s k .done)
+      (feedOf step (drop (eatOf s k .used) s) (record { day = step d (lineOf (eatOf s k .held)); held = none }))
+      (record { day = d; held = eatOf s k .held }))
       → feedOf step s (cond p (record { day = step d (lineOf h); held = none }) (record { day = d; held = pushed b h }))
       ≡ cond (cond p (record { done = true; used = 1; held = h }) (more (eatOf s (pushed b h))) .done)
-      (feedOf step (drop (cond p (record { done = true; used = 1; held = h }) (more (eatOf s (pushed b h))) .used) (b ∷ s)) (record { day = step d (lineOf (cond p (record { done = true; used = 1; held = h }) (more (eatOf s (pushed b h))) .held)); held = none }))
+      (feedOf step (drop (cond p (record { done = true; used = 1; held = h }) (more (eatOf s (pushed b h))) .used) (b ∷ s))
+      (record { day = step d (lineOf (cond p (record { done = true; used = 1; held = h }) (more (eatOf s (pushed b h))) .held)); held = none }))
       (record { day = d; held = cond p (record { done = true; used = 1; held = h }) (more (eatOf s (pushed b h))) .held })
   eaten-by b s h d true ih = refl
   eaten-by b s h d false ih = ih (pushed b h)
 
   -- a chunk is fed line by line, as eating finds them
   pub feed-eaten : (s : List ℕ) (h : Held) (d : D) → feedOf step s (record { day = d; held = h })
-      ≡ cond (eatOf s h .done) (feedOf step (drop (eatOf s h .used) s) (record { day = step d (lineOf (eatOf s h .held)); held = none })) (record { day = d; held = eatOf s h .held })
+      ≡ cond (eatOf s h .done) (feedOf step (drop (eatOf s h .used) s) (record { day = step d (lineOf (eatOf s h .held)); held = none }))
+      (record { day = d; held = eatOf s h .held })
   unfolding feedOf eatOf
   feed-eaten [] h d = refl
   feed-eaten (b ∷ s) h d = eaten-by b s h d (eqb b 10) (λ k. feed-eaten s k d)
@@ -123,7 +127,8 @@ module _ {D : Type 0} (step : D → Line → D) (φ : D → D) (same : (d : D) (
   feed-under (b ∷ s) f = ap (feedOf step s) (under-by b f (eqb b 10)) ∙ feed-under s (byteOf step b f)
 
 all-by : (p : Bool) (b : ℕ) (s : List ℕ) (h : Held) (e : Eaten) → (e .done ≡ false → e .used ≡ length s)
-    → cond p (record { done = true; used = 1; held = h }) (more e) .done ≡ false → cond p (record { done = true; used = 1; held = h }) (more e) .used ≡ length (b ∷ s)
+    → cond p (record { done = true; used = 1; held = h }) (more e) .done ≡ false
+    → cond p (record { done = true; used = 1; held = h }) (more e) .used ≡ length (b ∷ s)
 all-by true b s h e ih q = let z : _≡_ {A = ℕ} 0 1 = cc in absurd (omega arith)
 all-by false b s h e ih q = ap suc (ih q)
 

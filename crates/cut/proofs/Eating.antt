@@ -41,20 +41,23 @@ going-on e₀ e e₁ from i g q =
       held = sym (ap (λ (x : Eaten). x .held) q) ∙ g .held;
     }
 
-pub push-room : (buf : List ℕ) (k b : ℕ) (l : Bool) → k < mostBytes → length buf ≡ mostBytes → _≡_ {A = Held} (record { bytes = take (k + 1) (set buf k b); over = l }) (pushed b (record { bytes = take k buf; over = l }))
+pub push-room : (buf : List ℕ) (k b : ℕ) (l : Bool) → k < mostBytes → length buf ≡ mostBytes
+    → _≡_ {A = Held} (record { bytes = take (k + 1) (set buf k b); over = l }) (pushed b (record { bytes = take k buf; over = l }))
 push-room buf k b l h e =
     let n : length (take k buf) ≡ k = length-take-le k buf (omega arith) in
     let m : length (take k buf) < mostBytes = omega arith in
     let i : k < length buf = omega arith in
     rw (lt-ltb (length (take k buf)) mostBytes m, add-one, take-suc-set buf k b i)
 
-pub push-full : (buf : List ℕ) (k b : ℕ) (l : Bool) → mostBytes ≤ k → k ≤ mostBytes → length buf ≡ mostBytes → _≡_ {A = Held} (record { bytes = take k buf; over = true }) (pushed b (record { bytes = take k buf; over = l }))
+pub push-full : (buf : List ℕ) (k b : ℕ) (l : Bool) → mostBytes ≤ k → k ≤ mostBytes → length buf ≡ mostBytes
+    → _≡_ {A = Held} (record { bytes = take k buf; over = true }) (pushed b (record { bytes = take k buf; over = l }))
 push-full buf k b l h j e =
     let n : length (take k buf) ≡ k = length-take-le k buf (omega arith) in
     let m : mostBytes ≤ length (take k buf) = omega arith in
     rw (le-ltb (length (take k buf)) mostBytes m)
 
-pub ready-at : (r : Ate) (e₀ e : Eaten) (buf : List ℕ) (from i n : ℕ) → Going e₀ e from i → e ≡ record { done = r .«is_done»; used = n; held = stateOf buf (r .cut) } → r .at ≡ i + n → Ready r e₀ buf from
+pub ready-at : (r : Ate) (e₀ e : Eaten) (buf : List ℕ) (from i n : ℕ) → Going e₀ e from i
+    → e ≡ record { done = r .«is_done»; used = n; held = stateOf buf (r .cut) } → r .at ≡ i + n → Ready r e₀ buf from
 ready-at r e₀ e buf from i n g q p =
     record {
       done = sym (ap (λ (x : Eaten). x .done) q) ∙ g .done;
@@ -112,7 +115,8 @@ module _ {s : List ℕ} {i k : ℕ} (n : ℕ) (f : NoEnd s i) (g : EndAt (take n
 
 -- bytes that are no ends, behind u, are eaten up to the end behind them
 eat-line : (part rest u : List ℕ) → ((j : ℕ) → j < length part → getD part j 0 ≢ 10) → length u + length part ≤ mostBytes
-    → eatOf (part ++ (10 ∷ rest)) (record { bytes = u; over = false }) ≡ record { done = true; used = length part + 1; held = record { bytes = u ++ part; over = false } }
+    → eatOf (part ++ (10 ∷ rest)) (record { bytes = u; over = false })
+    ≡ record { done = true; used = length part + 1; held = record { bytes = u ++ part; over = false } }
 unfolding eatOf
 eat-line [] rest u f h = ap (λ (v : List ℕ). record { done = true; used = 1; held = record { bytes = v; over = false } }) (sym (append-nil u))
 eat-line (b ∷ part) rest u f h =
@@ -137,7 +141,15 @@ eat-end r e g l h =
 
 -- from place from on, where the chunk's rest is looked at
 pub eat-whole : (s : List ℕ) (from : ℕ) {n : ℕ} → EndAt (take (length s - from) (drop from s)) n → from + n < length s → n ≤ mostBytes
-    → eatOf (drop from s) none ≡ record { done = true; used = from + n - from + 1; held = record { bytes = take (from + n - from) (drop from s); over = false } }
+    → eatOf (drop from s) none ≡ record {
+      done = true;
+      used = from + n - from + 1;
+      held = record {
+        bytes = take (from + n - from)
+            (drop from s);
+        over = false;
+      };
+    }
 eat-whole s from {n} g l h =
     let e : take (length s - from) (drop from s) ≡ drop from s = take-all (length s - from) (drop from s) (omega (arith, length-drop from s)) in
     let m : from + n - from ≡ n = omega arith in

@@ -30,7 +30,8 @@ module _ (s : List ℕ) (h : 1 ≤ length s) (l : length s ≤ mostDigits) where
   pub read-digits : (getD s 0 0 ≡ 48 → ⊥) → numberOf s ≡ digitsFrom 0 s
   read-digits e = rw (le-ltb (length s) 1 h, le-ltb mostDigits (length s) l, ne-eqb (getD s 0 0) 48 e)
 
-pub read-step : (s : List ℕ) (i x : ℕ) → i < length s → 48 ≤ getD s i 0 → getD s i 0 ≤ 57 → digitsFrom x (drop i s) ≡ digitsFrom (x * 10 + (getD s i 0 - 48)) (drop (i + 1) s)
+pub read-step : (s : List ℕ) (i x : ℕ) → i < length s → 48 ≤ getD s i 0 → getD s i 0 ≤ 57
+    → digitsFrom x (drop i s) ≡ digitsFrom (x * 10 + (getD s i 0 - 48)) (drop (i + 1) s)
 unfolding digitsFrom
 read-step s i x h a b = rw (add-one, drop-cons s i 0 h, le-ltb (getD s i 0) 48 a, le-ltb 57 (getD s i 0) b)
 

@@ -30,7 +30,8 @@ negated m h =
     let e : pos 0 -ℤ pos (suc m) ≡ negsuc m = +ℤ-idl (negsuc m) in
     rw (toZ-pos w64 l, e) (f, toZ-ofZ {w = w64} f)
 
-pub negated-at : (n : Number) (x : ℕ) → n ≡ Value x → 1 ≤ x → smallOf n → SFits w64 (pos 0 -ℤ toZ w64 x) × (Whole (toZ w64 (ofZ w64 (pos 0 -ℤ toZ w64 x))) ≡ belowZero n)
+pub negated-at : (n : Number) (x : ℕ) → n ≡ Value x → 1 ≤ x → smallOf n
+    → SFits w64 (pos 0 -ℤ toZ w64 x) × (Whole (toZ w64 (ofZ w64 (pos 0 -ℤ toZ w64 x))) ≡ belowZero n)
 negated-at n zero e h s = absurd (omega arith)
 negated-at n (suc m) e h s =
     let g = negated m (value-small n (suc m) e s) in
@@ -110,10 +111,12 @@ module _ (z : ℤ) (h : natAbs z < 10 ^ mostDigits) (m : ℕ) (e : m ≡ natAbs 
   pub pos-room : (at n : ℕ) → ltZ (toZ w64 (ofZ w64 z)) (pos 0) ≡ false → at + length (signedText z) ≤ n → at + length (digitsOf m) ≤ n
   pos-room at n t r = omega (arith, ap length (pos-text t))
 
-  pub neg-put : (at r : ℕ) (l s : List ℕ) → ltZ (toZ w64 (ofZ w64 z)) (pos 0) ≡ true → r ≡ at + 1 + length (digitsOf m) → s ≡ sets (set l at 45) (at + 1) (digitsOf m) → (r ≡ at + length (signedText z)) × (s ≡ sets l at (signedText z))
+  pub neg-put : (at r : ℕ) (l s : List ℕ) → ltZ (toZ w64 (ofZ w64 z)) (pos 0) ≡ true → r ≡ at + 1 + length (digitsOf m)
+      → s ≡ sets (set l at 45) (at + 1) (digitsOf m) → (r ≡ at + length (signedText z)) × (s ≡ sets l at (signedText z))
   neg-put at r l s t p q = (omega (arith, ap length (neg-text t)), q ∙ sign-first l at m ∙ ap (sets l at) (sym (neg-text t)))
 
-  pub pos-put : (at r : ℕ) (l s : List ℕ) → ltZ (toZ w64 (ofZ w64 z)) (pos 0) ≡ false → r ≡ at + length (digitsOf m) → s ≡ sets l at (digitsOf m) → (r ≡ at + length (signedText z)) × (s ≡ sets l at (signedText z))
+  pub pos-put : (at r : ℕ) (l s : List ℕ) → ltZ (toZ w64 (ofZ w64 z)) (pos 0) ≡ false → r ≡ at + length (digitsOf m) → s ≡ sets l at (digitsOf m)
+      → (r ≡ at + length (signedText z)) × (s ≡ sets l at (signedText z))
   pos-put at r l s t p q = (omega (arith, ap length (pos-text t)), q ∙ ap (sets l at) (sym (pos-text t)))
 
 -- what is read as a whole number is below 10^18, and above minus that

@@ -9,7 +9,7 @@ use native.Mathlib.Numerals.{add-one}
 use lib.Dec.{ltb}
 use lib.ListN.{length, set, length-append}
 use lib.Seq.{sets, set-comm}
-use borrow.Author.Tests.{le-ltb, lt-ltb, ltb-true, ltb-false}
+use borrow.Author.Tests.{ltb-true, ltb-false}
 use lib.IntN.{ℤ, pos, negsuc, natAbs}
 use Rattle.numbers.specs.Numbers.{lastDigits, widthUpTo, widthOf, digitsOf, signedText}
 
@@ -44,7 +44,8 @@ put-step l at k y h =
 
 -- two digits of those still to be written, the last
 pub put-two : (l : List ℕ) (at k y : ℕ) → 1 < k
-    → sets (set (set l (at + (k - 2) + 1) (48 + y % 100 % 10)) (at + (k - 2)) (48 + y % 100 / 10)) at (lastDigits (k - 2) (y / 100)) ≡ sets l at (lastDigits k y)
+    → sets (set (set l (at + (k - 2) + 1) (48 + y % 100 % 10)) (at + (k - 2)) (48 + y % 100 / 10)) at (lastDigits (k - 2) (y / 100)) ≡ sets l at
+    (lastDigits k y)
 put-two l at k y h =
     let a : at + (k - 2) + 1 ≡ at + (k - 1) = omega arith in
     let b : k - 2 ≡ k - 1 - 1 = omega arith in
@@ -106,7 +107,8 @@ width-more zero x (suc n) h b = absurd (omega arith)
 width-more (suc f) x (suc n) h b =
     let c : 10 ^ n * 10 ≤ x = rw pow-suc at b in
     let p : 0 < 10 ^ n = pow-pos n in
-    by-ltb x 10 (λ w. suc n < cond w 1 (suc (widthUpTo f (x / 10)))) (λ l. absurd (omega arith)) (λ l. omega (arith, width-more f (x / 10) n (omega arith) (omega arith)))
+    by-ltb x 10 (λ w. suc n < cond w 1 (suc (widthUpTo f (x / 10)))) (λ l. absurd (omega arith))
+    (λ l. omega (arith, width-more f (x / 10) n (omega arith) (omega arith)))
   where
     pow-pos : (n : ℕ) → 0 < 10 ^ n
     pow-pos zero = omega arith

@@ -46,10 +46,20 @@ unfolding tabbed
 text-le (S.Open line count sum) h = simp length-append (omega (arith, number-le line 6 (h .0), number-le count 1 (h .1), signed-le sum (h .2)))
 text-le (S.Queued line payer number) h = simp length-append (omega (arith, number-le line 6 (h .0), number-le payer 1 (h .1), number-le number 9 (h .2)))
 text-le (S.Deposited line member balance) h = simp length-append (omega (arith, number-le line 6 (h .0), number-le member 1 (h .1), signed-le balance (h .2)))
-text-le (S.Released line payer number amount) h = simp length-append (omega (arith, number-le line 6 (h .0), number-le payer 1 (h .1), number-le number 9 (h .2), number-le amount 12 (h .3)))
+text-le (S.Released line payer number amount) h = simp length-append
+    (omega (arith, number-le line 6 (h .0), number-le payer 1 (h .1), number-le number 9 (h .2), number-le amount 12 (h .3)))
 text-le (S.Group line payments sum) h = simp length-append (omega (arith, number-le line 6 (h .0), number-le payments 3 (h .1), number-le sum 16 (h .2)))
 text-le (S.Resolve line verdict payments sum waiting lowest) h =
-    simp length-append (omega (arith, number-le line 6 (h .0), number-le verdict 1 (h .1), number-le payments 3 (h .2), number-le sum 16 (h .3), number-le waiting 1 (h .4), number-le lowest 1 (h .5)))
+    simp length-append (omega (
+      arith,
+      number-le line 6 (h .0),
+      number-le verdict 1 (h .1),
+      number-le payments 3 (h .2),
+      number-le sum 16 (h .3),
+      number-le waiting 1 (h .4),
+      number-le lowest 1 (h .5),
+    ))
 text-le (S.Refused line code) h = simp length-append (omega (arith, number-le line 6 (h .0), number-le code 1 (h .1)))
-text-le (S.Balance member balance waiting) h = simp length-append (omega (arith, number-le member 1 (h .0), signed-le balance (h .1), number-le waiting 3 (h .2)))
+text-le (S.Balance member balance waiting) h = simp length-append
+    (omega (arith, number-le member 1 (h .0), signed-le balance (h .1), number-le waiting 3 (h .2)))
 text-le (S.Money sum) h = simp length-append (omega (arith, signed-le sum h))

@@ -24,7 +24,8 @@ pub line-length : (p : Parts) → length (lineText p) ≡ length (p .start) + le
 line-length p = simp length-append
 
 -- u behind t
-behind : (l t s u s₁ : List ℕ) (at at₁ : ℕ) → at ≡ length t → s ≡ sets l 0 t → at₁ ≡ at + length u → s₁ ≡ sets s at u → (at₁ ≡ length (t ++ u)) × (s₁ ≡ sets l 0 (t ++ u))
+behind : (l t s u s₁ : List ℕ) (at at₁ : ℕ) → at ≡ length t → s ≡ sets l 0 t → at₁ ≡ at + length u → s₁ ≡ sets s at u
+    → (at₁ ≡ length (t ++ u)) × (s₁ ≡ sets l 0 (t ++ u))
 behind l t s u s₁ at at₁ a b c d =
     let z : at ≡ 0 + length t = omega arith in
     (simp length-append (omega arith), d ∙ rw (b, z) (sets-append t u l 0))
@@ -49,8 +50,10 @@ module _ (r : Row) (s : Says) (e : partsIn r ≡ partsOf s) (out : List ℕ) (h 
       let m : length (lineText (partsIn r)) ≡ length (textOf s) = ap (λ (p : Parts). length (lineText p)) e in
       (omega (arith, text-le s g), subst (λ (p : Parts). AllShort (p .numbers)) (sym e) (all-short s g))
 
-  pub row-put : (out₁ : List ℕ) (k : ℕ) → k ≡ length (lineText (partsIn r)) → out₁ ≡ sets out 0 (lineText (partsIn r)) → (Wrote k ≡ putOf (length out) (textOf s)) × (out₁ ≡ afterPut (length out) out 0 (textOf s))
-  row-put out₁ k a b = rw (le-ltb (length out) leastRoom h) (ap Wrote (a ∙ ap (λ (p : Parts). length (lineText p)) e), b ∙ ap (λ (p : Parts). sets out 0 (lineText p)) e)
+  pub row-put : (out₁ : List ℕ) (k : ℕ) → k ≡ length (lineText (partsIn r)) → out₁ ≡ sets out 0 (lineText (partsIn r))
+      → (Wrote k ≡ putOf (length out) (textOf s)) × (out₁ ≡ afterPut (length out) out 0 (textOf s))
+  row-put out₁ k a b =
+      rw (le-ltb (length out) leastRoom h) (ap Wrote (a ∙ ap (λ (p : Parts). length (lineText p)) e), b ∙ ap (λ (p : Parts). sets out 0 (lineText p)) e)
 
 sets-cons : (x : ℕ) (l vs : List ℕ) (i : ℕ) → sets (x ∷ l) (suc i) vs ≡ x ∷ sets l i vs
 sets-cons x l [] i = refl
@@ -72,7 +75,8 @@ module _ (out : List ℕ) (at : ℕ) (h : at ≤ length out) where
   rest-by text true = sets-rest out [] at h
   rest-by text false = sets-rest out text at h
 
-  pub rest-put : (r : Put) (t text : List ℕ) → r ≡ putOf (length (take (length out - at) (drop at out))) text → t ≡ afterPut (length (take (length out - at) (drop at out))) (take (length out - at) (drop at out)) 0 text
+  pub rest-put : (r : Put) (t text : List ℕ) → r ≡ putOf (length (take (length out - at) (drop at out))) text
+      → t ≡ afterPut (length (take (length out - at) (drop at out))) (take (length out - at) (drop at out)) 0 text
       → (r ≡ putOf (length out - at) text) × (putMid at (length out - at) out t ≡ afterPut (length out - at) out at text)
   rest-put r t text a b =
       let n : length (take (length out - at) (drop at out)) ≡ length out - at = ap length (rest-all at out) ∙ length-drop at out in

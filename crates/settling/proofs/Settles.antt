@@ -60,8 +60,10 @@ module _ {T : Tables} (h : Holds T) (k : List ℕ) where
   -- the counters tell whether no count is above what waits
   pub counts-fit : countsFit (T .counters) k ≡ isCounts (membersIn T) (houseIn T) k
   counts-fit = same-bools (countsFit (T .counters) k) (isCounts (membersIn T) (houseIn T) k)
-      (λ e. let b = and-both (eqb (length k) (membersIn T)) (every byCounters (membersIn T)) e in rw (b .0) (every-of (countAt (houseIn T) k) (membersIn T) (λ i q. there i q (every-at byCounters (membersIn T) i (b .1) q))))
-      (λ e. let b = and-both (eqb (length k) (membersIn T)) (every (countAt (houseIn T) k) (membersIn T)) e in rw (b .0) (every-of byCounters (membersIn T) (λ i q. back i q (every-at (countAt (houseIn T) k) (membersIn T) i (b .1) q))))
+      (λ e. let b = and-both (eqb (length k) (membersIn T)) (every byCounters (membersIn T)) e in rw (b .0)
+      (every-of (countAt (houseIn T) k) (membersIn T) (λ i q. there i q (every-at byCounters (membersIn T) i (b .1) q))))
+      (λ e. let b = and-both (eqb (length k) (membersIn T)) (every (countAt (houseIn T) k) (membersIn T)) e in rw (b .0)
+      (every-of byCounters (membersIn T) (λ i q. back i q (every-at (countAt (houseIn T) k) (membersIn T) i (b .1) q))))
     where
       byCounters : ℕ → Bool
       byCounters i = leb (listed k i) (waitsOf (T .counters) i)
@@ -145,7 +147,8 @@ module _ {T : Tables} (h : Holds T) (m : ℕ) (one : 1 ≤ m) (within : m ≤ me
         let r = release-covered (holds-sound h) (holds-proper h) (m - 1) seat (omega arith) in
         let s = covered-allowed (membersIn T) (houseIn T) (onlyHead m) (λ i q. within-head i (omega (arith, h .counters .few))) in
         let x = pos (headAmount T m) in
-        let l : balanceOf (T .accounts) (m - 1) +ℤ lineOf (T .accounts) (m - 1) ≡ balanceOf (T .accounts) (m - 1) +ℤ pos (houseIn T .line (m - 1)) = rw (line-is h (m - 1) (omega (arith, h .counters .few))) in
+        let l : balanceOf (T .accounts) (m - 1) +ℤ lineOf (T .accounts) (m - 1) ≡ balanceOf (T .accounts) (m - 1) +ℤ pos (houseIn T .line (m - 1)) = rw
+        (line-is h (m - 1) (omega (arith, h .counters .few))) in
         same-bools (isCovered (membersIn T) (houseIn T) (onlyHead m)) (headCovered T m)
         (λ e. true-le x (balanceOf (T .accounts) (m - 1) +ℤ lineOf (T .accounts) (m - 1)) (rw l (r .0 (s .0 e))))
         (λ e. s .1 (r .1 (rw l at (le-true x (balanceOf (T .accounts) (m - 1) +ℤ lineOf (T .accounts) (m - 1)) e))))
@@ -196,7 +199,10 @@ group-exact {T} h k e = rw (← group-tests h k e) (
 )
   where
     covered : (isCovered (membersIn T) (houseIn T) (listed k) ≡ true) ↔ AllowedSet (membersIn T) (houseIn T) (listed k)
-    covered = covered-allowed (membersIn T) (houseIn T) (listed k) (λ i q. leb-true (listed k i) (waits (houseIn T) i) (every-at (countAt (houseIn T) k) (membersIn T) i (and-both (eqb (length k) (membersIn T)) (every (countAt (houseIn T) k) (membersIn T)) e .1) q))
+    covered =
+        covered-allowed (membersIn T) (houseIn T) (listed k)
+        (λ i q. leb-true (listed k i) (waits (houseIn T) i)
+        (every-at (countAt (houseIn T) k) (membersIn T) i (and-both (eqb (length k) (membersIn T)) (every (countAt (houseIn T) k) (membersIn T)) e .1) q))
 
 -- an accepted group books its counts,
 pub group-books : {T : Tables} → Holds T → (k : List ℕ) → first (groupAct k .tests T) ≡ Fine → Books T (listed k)
@@ -214,6 +220,7 @@ release-books {T} h m t =
     let some = eqb-false (waits (houseIn T) (m - 1)) 0 (f .1 .0) in
     let covered = head-covered h m (i .0) (i .1) some ∙ not-false (headCovered T m) (f .1 .1 .0) in
     record {
-      allowed = covered-allowed (membersIn T) (houseIn T) (onlyHead m) (λ j q. within-head h m (i .0) (i .1) some j (omega (arith, h .counters .few))) .0 covered;
+      allowed =
+          covered-allowed (membersIn T) (houseIn T) (onlyHead m) (λ j q. within-head h m (i .0) (i .1) some j (omega (arith, h .counters .few))) .0 covered;
       past = λ j q l. put-other none (m - 1) 1 j (λ e. omega (arith, i .0, i .1));
     }

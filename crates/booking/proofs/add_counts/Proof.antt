@@ -33,7 +33,12 @@ cast-block : tie.Need-cast-block Inv-loop μ-loop
 cast-block c = omega (arith, c .shared-slice-known .given (c .before .before .before .loop .i))
 
 add-block : tie.Need-add-block Inv-loop μ-loop
-add-block c = omega (arith, filling-here (c .before .before .before .loop .inv) 0, c .before .before .before .before .pre .1 (c .before .before .before .loop .i) (omega arith))
+add-block c =
+    omega (
+      arith,
+      filling-here (c .before .before .before .loop .inv) 0,
+      c .before .before .before .before .pre .1 (c .before .before .before .loop .i) (omega arith),
+    )
 
 mul-block-3 : tie.Need-mul-block-3 Inv-loop μ-loop
 mul-block-3 c = search needs

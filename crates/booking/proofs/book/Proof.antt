@@ -23,15 +23,18 @@ slice-aggregate-close-up c = search needs
 
 close-up-requires : tie.Need-close-up-requires
 close-up-requires c κs =
-    let s = c .before .before .before .before .before .before .before .before in
-    (rw (c .before .wide .ensures) (holds-words (s .pre .0 .holds)), ap length (c .before .before .before .before .copied .ensures) ∙ s .pre .0 .members)
+    let x = c .before .before .before .before in
+    let s = x .before .before .before .before in
+    (rw (c .before .wide .ensures) (holds-words (s .pre .0 .holds)), ap length (x .copied .ensures) ∙ s .pre .0 .members)
 
 store-requires : tie.Need-store-requires
 store-requires c κs = search needs
 
 count-off-requires : tie.Need-count-off-requires
 count-off-requires c κs =
-    let k = c .before .before .before .before .before .before .before .before .before .before .before .before .before .before .before in
+    let x = c .before .before .before .before .before in
+    let y = x .before .before .before .before .before in
+    let k = y .before .before .before .before .before in
     countable (k .before .pre .0) (λ i. omega (arith, k .slice-known .given i))
 
 same-length : tie.Need-same-length
@@ -46,14 +49,17 @@ same-length-3 c = search needs
 returns : tie.Need-returns
 unfolding bookedIn
 returns c =
-    let u = c .before .before .before .before .before .before .before .before .before .before in
-    let s = u .before .before .before .before .before .before .before .before .before in
+    let x = c .before .before .before .before .before in
+    let u = x .before .before .before .before .before in
+    let k = u .before .before .before .before .before in
+    let s = k .before .before .before .before in
+    let n = u .before .before .wide .ensures in
     let h = s .pre .0 .holds in (
       tables-same
-          (c .before .before .before .before .before .store .ensures ∙ positions-booked h (s .pre .1))
+          (x .store .ensures ∙ positions-booked h (s .pre .1))
           (c .before .before .count-off .ensures)
-          (rw (u .close-up .ensures .0, u .before .before .before .before .before .copied .ensures, u .before .before .wide .ensures) (closed-booked h (listed (s .args .counts .now)))),
-      rw (u .close-up .ensures .1, u .before .before .before .before .before .copied .ensures, u .before .before .wide .ensures) (sum-sent h (listed (s .args .counts .now))),
+          (rw (u .close-up .ensures .0, k .copied .ensures, n) (closed-booked h (listed (s .args .counts .now)))),
+      rw (u .close-up .ensures .1, k .copied .ensures, n) (sum-sent h (listed (s .args .counts .now))),
     )
 
 pub book-spec : {M : Type 1} → statement M

@@ -22,7 +22,8 @@ slice-relend-prefix-enter : tie.Need-slice-relend-prefix-enter
 slice-relend-prefix-enter c = search needs
 
 slice-aggregate-enter : tie.Need-slice-aggregate-enter
-slice-aggregate-enter c = let s = c .before .before .before .before in sym (length-take-le members (s .args .accounts .now) (omega (arith, s .pre .0 .accounts .long)))
+slice-aggregate-enter c =
+    let s = c .before .before .before .before in sym (length-take-le members (s .args .accounts .now) (omega (arith, s .pre .0 .accounts .long)))
 
 enter-requires : tie.Need-enter-requires
 enter-requires c κs =

@@ -72,9 +72,11 @@ same-length c = search needs
 
 returns-2 : tie.Need-returns-2 Inv-loop μ-loop
 returns-2 c =
-    let s = c .before .before .before .before .before .before .before .before .args in
-    let l = c .before .before .before .before .before .loop in
-    gap-closed (length (s .s .now) - s .gap) (s .gap) (s .s .now) (l .s) (c .before .before .clear .last .0) (omega arith) (filling-end (l .inv) (omega arith)) (c .before .before .clear .ensures)
+    let x = c .before .before .before .before .before in
+    let s = x .before .before .before .args in
+    let l = x .loop in
+    gap-closed (length (s .s .now) - s .gap) (s .gap) (s .s .now) (l .s) (c .before .before .clear .last .0) (omega arith)
+    (filling-end (l .inv) (omega arith)) (c .before .before .clear .ensures)
 
 pub close-gap-spec : {M : Type 1} → statement M
 close-gap-spec =

@@ -1,7 +1,7 @@
 -- `booking::close_one` meets its contract. The invariant: the places before i have moved down.
 use borrow.Author.Needs.{needs}
 use mathlib.Core.Path.{_≡_}
-use Prim.Native.Nat.{_+_, _≤_, _<_, _-_}
+use Prim.Native.Nat.{_+_, _<_, _-_}
 use native.Mathlib.Omega.{arith}
 use lib.ListN.{length, length-set}
 use Rattle.booking.specs.Steps.{block, Lowered}

@@ -68,8 +68,10 @@ slice-write-left c = omega (arith, seat (c .before .before), c .before .before .
 
 sub-more : tie.Need-sub-more Inv-loop μ-loop
 sub-more c =
-    let l = c .before .before .before .before .before .loop in
-    closing-more (c .before .before .before .before .before .before .before .before .before .before .before .pre .0) (omega arith) (l .inv .0) (rw (c .before .before .payer-of .ensures) at (c .if1 .left))
+    let x = c .before .before .before .before .before in
+    let y = x .before .before .before .before .before in
+    let l = x .loop in
+    closing-more (y .before .pre .0) (omega arith) (l .inv .0) (rw (c .before .before .payer-of .ensures) at (c .if1 .left))
 
 pass-end-requires-2 : tie.Need-pass-end-requires-2 Inv-loop μ-loop
 pass-end-requires-2 c κs = search needs
@@ -79,8 +81,11 @@ amount-of-requires c κs = search needs
 
 add-sum : tie.Need-add-sum Inv-loop μ-loop
 add-sum c =
-    let s = c .before .before .before .before .before .before .before .before .before .before .before .before .before in
-    let l = c .before .before .before .before .before .before .before .loop in
+    let x = c .before .before .before .before .before in
+    let y = x .before .before in
+    let z = y .before .before .before .before .before in
+    let s = z .before in
+    let l = y .loop in
     let h : l .from < s .args .used = omega arith in
     omega (arith, closing-small (s .pre .0) h (l .inv .0), s .pre .0 .few)
 
@@ -92,8 +97,10 @@ loop-less c = search needs
 
 loop-again : tie.Need-loop-again Inv-loop μ-loop
 loop-again c =
-    let s = c .before .before .before .before .before .before .before .before .before .before .before in
-    let l = c .before .before .before .before .before .loop in
+    let x = c .before .before .before .before .before in
+    let y = x .before .before .before .before .before in
+    let s = y .before in
+    let l = x .loop in
     let e = c .before .before .payer-of .ensures in
     let h : l .from < s .args .used = omega arith in
     ⊎-elim
@@ -123,14 +130,22 @@ same-length : tie.Need-same-length Inv-loop μ-loop
 same-length c = search needs
 
 same-length-2 : tie.Need-same-length-2 Inv-loop μ-loop
-same-length-2 c = c .before .before .before .before .before .loop .inv .0 .members ∙ sym (c .before .before .before .before .before .before .before .before .before .before .before .pre .1)
+same-length-2 c =
+    let x = c .before .before .before .before .before in
+    let y = x .before .before .before .before .before in
+    x .loop .inv .0 .members ∙ sym (y .before .pre .1)
 
 returns : tie.Need-returns Inv-loop μ-loop
 returns c =
-    let g = c .before .before .before .before .before .before .before .before .before .before .before .pre .0 in
-    let v = c .before .before .before .before .before .loop .inv in
-    let h = c .before .before .before .before .loop-test .left in
-    (closing-end g (v .1) (omega arith) (v .0) (c .before .before .close-gap .last .0) (c .before .before .close-gap .ensures), closing-sum g (v .1) (omega arith) (v .0))
+    let x = c .before .before .before .before .before in
+    let y = x .before .before .before .before .before in
+    let g = y .before .pre .0 in
+    let v = x .loop .inv in
+    let h = c .before .before .before .before .loop-test .left in (
+      closing-end g (v .1) (omega arith) (v .0) (c .before .before .close-gap .last .0) (c .before .before .close-gap .ensures),
+      closing-sum g (v .1)
+          (omega arith) (v .0),
+    )
 
 pub close-up-spec : {M : Type 1} → statement M
 close-up-spec =

@@ -28,7 +28,9 @@ slice-read-counters-2 : tie.Need-slice-read-counters-2
 slice-read-counters-2 c = simp length-set (omega arith)
 
 sub-counters : tie.Need-sub-counters
-sub-counters c = let s = c .before .before in subst (λ n. 1 ≤ n) (sym (waiting-kept (s .args .counters .now) (s .args .seat) (settledOf (s .args .counters .now) (s .args .seat) + 1))) (s .pre .2)
+sub-counters c =
+    let s = c .before .before in
+    subst (λ n. 1 ≤ n) (sym (waiting-kept (s .args .counters .now) (s .args .seat) (settledOf (s .args .counters .now) (s .args .seat) + 1))) (s .pre .2)
 
 slice-write-counters-2 : tie.Need-slice-write-counters-2
 slice-write-counters-2 c = simp length-set (omega arith)

@@ -31,8 +31,10 @@ block c i h = getD-take members (drop settledAt c) i 0 h ∙ getD-drop settledAt
 
 add-counts-requires : tie.Need-add-counts-requires
 add-counts-requires c κs =
-    let s = c .before .before .before in
-    ((length-take-le members (drop settledAt (s .args .counters .now)) (simp length-drop (omega (arith, s .pre .broad))), s .pre .members), λ i h. rw (block (s .args .counters .now) i h) (s .pre .settles i h))
+    let s = c .before .before .before in (
+      (length-take-le members (drop settledAt (s .args .counters .now)) (simp length-drop (omega (arith, s .pre .broad))), s .pre .members),
+      λ i h. rw (block (s .args .counters .now) i h) (s .pre .settles i h),
+    )
 
 tally-requires : tie.Need-tally-requires
 tally-requires c κs = search needs
@@ -40,31 +42,43 @@ tally-requires c κs = search needs
 slice-read-counters : tie.Need-slice-read-counters
 slice-read-counters c = search needs
 
+-- back to the start
+abbrev begun : tie.After-add-counts → tie.Start
+begun c = c .before .before .before .before
+
 -- the block put back
-settled : (c : tie.After-add-counts) → putMid settledAt members (c .before .before .before .before .args .counters .now) (c .add-counts .last .0)
-    ≡ fillAt settledAt members (λ i. settledOf (c .before .before .before .before .args .counters .now) i + listed (c .before .before .before .before .args .counts .now) i) (c .before .before .before .before .args .counters .now)
+settled : (c : tie.After-add-counts) →
+    let l = begun c .args .counters .now in
+    putMid settledAt members l (c .add-counts .last .0) ≡ fillAt settledAt members (λ i. settledOf l i + listed (begun c .args .counts .now) i) l
 unfolding fillAt
 settled c =
-    let l = c .before .before .before .before .args .counters .now in
-    let k = c .before .before .before .before .args .counts .now in
+    let l = begun c .args .counters .now in
+    let k = begun c .args .counts .now in
     ap (λ r. take settledAt l ++ r) (ap (λ r. r ++ drop members (drop settledAt l)) (c .add-counts .ensures)
-    ∙ fill-part 0 members _ (λ i. settledOf l i + listed k i) (drop settledAt l) (simp length-drop (omega (arith, c .before .before .before .before .pre .broad))) (λ i h. ap (λ n. n + listed k i) (block l i h)))
+    ∙ fill-part 0 members _ (λ i. settledOf l i + listed k i) (drop settledAt l) (simp length-drop (omega (arith, begun c .pre .broad)))
+    (λ i h. ap (λ n. n + listed k i) (block l i h)))
 
-counted : (c : tie.After-tally) → c .tally .result ≡ sum members (listed (c .before .before .before .before .before .before .before .args .counts .now))
-counted c = let s = c .before .before .before .before .before .before .before in c .tally .ensures ∙ ap (λ n. sum n (listed (s .args .counts .now))) (s .pre .members)
+counted : (c : tie.After-tally) → c .tally .result ≡ sum members (listed (begun (c .before .before .before) .args .counts .now))
+counted c =
+    let s = begun (c .before .before .before) in
+    c .tally .ensures ∙ ap (λ n. sum n (listed (s .args .counts .now))) (s .pre .members)
 
 -- the block is not where the waiting are counted
-waiting : (c : tie.After-tally) → getD (putMid settledAt members (c .before .before .before .before .before .before .before .args .counters .now) (c .before .before .before .add-counts .last .0)) 1 0
-    ≡ waitingOf (c .before .before .before .before .before .before .before .args .counters .now)
+waiting : (c : tie.After-tally) →
+    let l = begun (c .before .before .before) .args .counters .now in
+    getD (putMid settledAt members l (c .before .before .before .add-counts .last .0)) 1 0 ≡ waitingOf l
 waiting c =
-    let s = c .before .before .before .before .before .before .before in
-    ap (λ l. getD l 1 0) (settled (c .before .before .before))
-    ∙ before-fill settledAt members (λ i. settledOf (s .args .counters .now) i + listed (s .args .counts .now) i) (s .args .counters .now) (omega (arith, s .pre .broad)) 1 0 (omega arith)
+    let x = c .before .before .before in
+    let s = begun x in
+    let l = s .args .counters .now in
+    ap (λ l. getD l 1 0) (settled x)
+    ∙ before-fill settledAt members (λ i. settledOf l i + listed (s .args .counts .now) i) l (omega (arith, s .pre .broad)) 1 0 (omega arith)
 
 sub-counters : tie.Need-sub-counters
 sub-counters c =
-    let s = c .before .before .before .before .before .before .before .before in
-    subst (λ n. c .before .tally .result ≤ n) (sym (waiting (c .before))) (subst (λ n. n ≤ waitingOf (s .args .counters .now)) (sym (counted (c .before))) (s .pre .waits))
+    let x = c .before in
+    let s = begun (x .before .before .before) in
+    subst (λ n. x .tally .result ≤ n) (sym (waiting x)) (subst (λ n. n ≤ waitingOf (s .args .counters .now)) (sym (counted x)) (s .pre .waits))
 
 slice-write-counters : tie.Need-slice-write-counters
 slice-write-counters c = search needs

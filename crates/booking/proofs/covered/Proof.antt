@@ -49,17 +49,21 @@ mul-is-short-2 : tie.Need-mul-is-short-2 Inv-loop μ-loop
 mul-is-short-2 c = omega (arith, seat (c .before))
 
 shared-slice-copy-out-is-short-2 : tie.Need-shared-slice-copy-out-is-short-2 Inv-loop μ-loop
-shared-slice-copy-out-is-short-2 c = omega (arith, seat (c .before), c .before .before .before .before .before .before .pre .0 .1 .long)
+shared-slice-copy-out-is-short-2 c =
+    let x = c .before in
+    omega (arith, seat x, x .before .before .before .before .before .pre .0 .1 .long)
 
 is-short-requires : tie.Need-is-short-requires Inv-loop μ-loop
 is-short-requires c κs =
+    let x = c .before .before .before in
     let g = c .is-short-arg2 .given in
-    simp plain (c .before .before .before .before .before .before .before .pre .0 .1 .holders (c .before .before .before .loop .i) (member (c .before .before)) .line)
+    simp plain (x .before .before .before .before .pre .0 .1 .holders (x .loop .i) (member (c .before .before)) .line)
 
 -- the answer is the test of this member's position and line
-test : (c : tie.After-is-short Inv-loop μ-loop) → c .is-short .result
-    ≡ ltZ (getD (c .before .before .before .before .before .before .before .before .args .positions .now) (c .before .before .before .before .loop .i) (pos 0))
-    (pos 0 -ℤ lineOf (c .before .before .before .before .before .before .before .before .args .accounts .now) (c .before .before .before .before .loop .i))
+test : (c : tie.After-is-short Inv-loop μ-loop) →
+    let l = c .before .before .before .before in
+    let s = l .before .before .before .before in
+    c .is-short .result ≡ ltZ (getD (s .args .positions .now) (l .loop .i) (pos 0)) (pos 0 -ℤ lineOf (s .args .accounts .now) (l .loop .i))
 test c =
     let g = c .before .is-short-arg2 .given in
     let h = c .before .before .is-short-arg .given in
@@ -67,10 +71,12 @@ test c =
 
 returns : tie.Need-returns Inv-loop μ-loop
 returns c =
-    let s = c .before .before .before .before .before .before .before .before .before in
-    let l = c .before .before .before .before .before .loop in
-    every-fail (l .inv) (omega arith) (short (getD (s .args .positions .now) (l .i) (pos 0)) (lineOf (s .args .accounts .now) (l .i)) (sym (test (c .before)) ∙ c .if1 .taken))
-    ∙ ap (λ n. coveredAll n (s .args .positions .now) (s .args .accounts .now)) (c .before .before .before .before .before .before .wide .ensures)
+    let x = c .before .before .before .before .before in
+    let s = x .before .before .before .before in
+    let l = x .loop in
+    every-fail (l .inv) (omega arith)
+    (short (getD (s .args .positions .now) (l .i) (pos 0)) (lineOf (s .args .accounts .now) (l .i)) (sym (test (c .before)) ∙ c .if1 .taken))
+    ∙ ap (λ n. coveredAll n (s .args .positions .now) (s .args .accounts .now)) (x .before .wide .ensures)
 
 add-i : tie.Need-add-i Inv-loop μ-loop
 add-i c = search needs
@@ -80,14 +86,17 @@ loop-less c = search needs
 
 loop-again : tie.Need-loop-again Inv-loop μ-loop
 loop-again c =
-    let s = c .before .before .before .before .before .before .before .before .before in
-    let l = c .before .before .before .before .before .loop in
-    every-more (l .inv) (omega arith) (not-short (getD (s .args .positions .now) (l .i) (pos 0)) (lineOf (s .args .accounts .now) (l .i)) (sym (test (c .before)) ∙ c .if1 .left))
+    let x = c .before .before .before .before .before in
+    let s = x .before .before .before .before in
+    let l = x .loop in
+    every-more (l .inv) (omega arith)
+    (not-short (getD (s .args .positions .now) (l .i) (pos 0)) (lineOf (s .args .accounts .now) (l .i)) (sym (test (c .before)) ∙ c .if1 .left))
 
 returns-2 : tie.Need-returns-2 Inv-loop μ-loop
 returns-2 c =
     let s = c .before .before .before .before .before in
-    every-end (c .before .loop .inv) (omega arith) ∙ ap (λ n. coveredAll n (s .args .positions .now) (s .args .accounts .now)) (c .before .before .wide .ensures)
+    every-end (c .before .loop .inv) (omega arith)
+    ∙ ap (λ n. coveredAll n (s .args .positions .now) (s .args .accounts .now)) (c .before .before .wide .ensures)
 
 pub covered-spec : {M : Type 1} → statement M
 covered-spec =

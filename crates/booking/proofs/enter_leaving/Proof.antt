@@ -26,19 +26,28 @@ pass-end-requires : tie.Need-pass-end-requires Inv-loop μ-loop
 pass-end-requires c κs = search needs
 
 loop-holds : tie.Need-loop-holds Inv-loop μ-loop
-loop-holds c = let s = c .before .before .before .before .before in (underway-start (s .args .left .now) (s .pre .0) (s .pre .1) (c .before .tally .ensures), c .pass-end .ensures)
+loop-holds c =
+    let s = c .before .before .before .before .before in
+    (underway-start (s .args .left .now) (s .pre .0) (s .pre .1) (c .before .tally .ensures), c .pass-end .ensures)
 
 mul-w : tie.Need-mul-w Inv-loop μ-loop
-mul-w c = omega (arith, c .before .before .before .before .before .before .before .pre .0 .few)
+mul-w c =
+    let x = c .before .before .before .before .before in
+    omega (arith, x .before .before .pre .0 .few)
 
 shared-slice-read-w : tie.Need-shared-slice-read-w Inv-loop μ-loop
-shared-slice-read-w c = omega (arith, c .before .before .before .before .before .before .before .before .pre .0 .places)
+shared-slice-read-w c =
+    let x = c .before .before .before .before .before in
+    omega (arith, x .before .before .before .pre .0 .places)
 
 payer-of-requires : tie.Need-payer-of-requires Inv-loop μ-loop
 payer-of-requires c κs = search needs
 
 seat : (c : tie.After-payer-of Inv-loop μ-loop) → c .payer-of .result < members
-seat c = omega (arith, payer-under (getD (c .before .before .before .before .before .before .before .before .before .args .pays .now) (c .before .before .before .loop .i) 0))
+seat c =
+    let x = c .before .before .before in
+    let y = x .before .before .before .before .before in
+    omega (arith, payer-under (getD (y .before .args .pays .now) (x .loop .i) 0))
 
 mul-z : tie.Need-mul-z Inv-loop μ-loop
 mul-z c = omega (arith, seat c)
@@ -57,8 +66,10 @@ slice-write-left c = omega (arith, seat (c .before .before), c .before .before .
 
 sub-more : tie.Need-sub-more Inv-loop μ-loop
 sub-more c =
-    let s = c .before .before .before .before .before .before .before .before .before .before .before in
-    let l = c .before .before .before .before .before .loop in
+    let x = c .before .before .before .before .before in
+    let y = x .before .before .before .before .before in
+    let s = y .before in
+    let l = x .loop in
     underway-more (s .pre .0) (omega arith) (l .inv .0) (rw (c .before .before .payer-of .ensures) at (c .if1 .taken))
 
 pass-end-requires-2 : tie.Need-pass-end-requires-2 Inv-loop μ-loop
@@ -66,8 +77,11 @@ pass-end-requires-2 c κs = search needs
 
 enter-requires : tie.Need-enter-requires Inv-loop μ-loop
 enter-requires c κs =
-    let s = c .before .before .before .before .before .before .before .before .before .before .before .before .before in
-    let l = c .before .before .before .before .before .before .before .loop in
+    let x = c .before .before .before .before .before in
+    let y = x .before .before in
+    let z = y .before .before .before .before .before in
+    let s = z .before in
+    let l = y .loop in
     (underway-steady (s .pre .0) (omega arith) (l .inv .0), s .pre .0 .small (l .i) (omega arith))
 
 add-i : tie.Need-add-i Inv-loop μ-loop
@@ -78,8 +92,10 @@ loop-less c = search needs
 
 loop-again : tie.Need-loop-again Inv-loop μ-loop
 loop-again c =
-    let s = c .before .before .before .before .before .before .before .before .before .before .before in
-    let l = c .before .before .before .before .before .loop in
+    let x = c .before .before .before .before .before in
+    let y = x .before .before .before .before .before in
+    let s = y .before in
+    let l = x .loop in
     let e = c .before .before .payer-of .ensures in
     let h : l .i < s .args .used = omega arith in
     ⊎-elim
@@ -88,10 +104,16 @@ loop-again c =
     (c .if1 .came)
 
 same-length : tie.Need-same-length Inv-loop μ-loop
-same-length c = c .before .loop .inv .0 .each ∙ sym (c .before .before .before .before .before .before .before .pre .0 .each)
+same-length c =
+    let x = c .before in
+    let y = x .before .before .before .before .before in
+    x .loop .inv .0 .each ∙ sym (y .before .pre .0 .each)
 
 same-length-2 : tie.Need-same-length-2 Inv-loop μ-loop
-same-length-2 c = c .before .loop .inv .0 .members ∙ sym (c .before .before .before .before .before .before .before .pre .1)
+same-length-2 c =
+    let x = c .before in
+    let y = x .before .before .before .before .before in
+    x .loop .inv .0 .members ∙ sym (y .before .pre .1)
 
 returns : tie.Need-returns Inv-loop μ-loop
 returns c = underway-end (c .before .loop .inv .0) (c .before .loop .inv .1) (omega arith)

@@ -27,7 +27,13 @@ payer-of-requires : tie.Need-payer-of-requires Inv-loop μ-loop
 payer-of-requires c κs = search needs
 
 returns : tie.Need-returns Inv-loop μ-loop
-returns c = let l = c .before .before .before .before .loop in record { within = omega arith; payer = λ q. sym (c .before .payer-of .ensures) ∙ c .if1 .taken; others = l .inv .1 .others }
+returns c =
+    let l = c .before .before .before .before .loop in record {
+      within = omega arith;
+      payer = λ q. sym (c .before .payer-of .ensures)
+          ∙ c .if1 .taken;
+      others = l .inv .1 .others;
+    }
 
 add-i : tie.Need-add-i Inv-loop μ-loop
 add-i c = search needs

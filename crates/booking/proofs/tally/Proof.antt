@@ -41,7 +41,9 @@ loop-again : tie.Need-loop-again Inv-loop μ-loop
 loop-again c = (omega arith, rw (c .before .before .loop .inv .1, add-one), omega (arith, c .shared-slice-known .given (c .before .before .loop .i)))
 
 returns : tie.Need-returns Inv-loop μ-loop
-returns c = let e : c .before .loop .i ≡ length (c .before .before .args .counts .now) = omega arith in c .before .loop .inv .1 ∙ ap (λ k. sum k (listed (c .before .before .args .counts .now))) e
+returns c =
+    let e : c .before .loop .i ≡ length (c .before .before .args .counts .now) = omega arith in c .before .loop .inv .1
+    ∙ ap (λ k. sum k (listed (c .before .before .args .counts .now))) e
 
 pub tally-spec : {M : Type 1} → statement M
 tally-spec =

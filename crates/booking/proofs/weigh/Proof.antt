@@ -27,17 +27,23 @@ slice-aggregate-enter-leaving-2 c = search needs
 
 enter-leaving-requires : tie.Need-enter-leaving-requires
 enter-leaving-requires c κs =
-    let s = c .before .before .before .before .before .before .before .before .before in
-    let b = c .before .before .before .before .before .balances in
-    let m : length (b .result) ≡ members = search needs in
-    (rw (c .before .before .wide .ensures) (can-enter (s .pre) (b .result) m (b .ensures)), ap length (c .before .before .before .before .copied .ensures) ∙ s .pre .members)
+    let x = c .before .before .before .before .before in
+    let s = x .before .before .before .before in
+    let b = x .balances in
+    let m : length (b .result) ≡ members = search needs in (
+      rw (c .before .before .wide .ensures) (can-enter (s .pre) (b .result) m (b .ensures)),
+      ap length (c .before .before .before .before .copied .ensures)
+          ∙ s .pre .members,
+    )
 
 returns : tie.Need-returns
 returns c =
-    let s = c .before .before .before .before .before .before .before .before .before .before .before .before in
-    let b = c .before .before .before .before .before .before .before .before .balances in
+    let x = c .before .before .before .before .before in
+    let y = x .before .before .before in
+    let s = y .before .before .before .before in
+    let b = y .balances in
     let m : length (b .result) ≡ members = search needs in
-    rw (c .before .before .enter-leaving .ensures, c .before .before .before .before .before .before .before .copied .ensures, c .before .before .before .before .before .wide .ensures) (weighed (s .pre) (b .result) m (b .ensures))
+    rw (c .before .before .enter-leaving .ensures, x .before .before .copied .ensures, x .wide .ensures) (weighed (s .pre) (b .result) m (b .ensures))
 
 pub weigh-spec : {M : Type 1} → statement M
 weigh-spec =

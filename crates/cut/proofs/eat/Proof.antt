@@ -13,7 +13,9 @@ use Rattle.cut.proofs.eat.Statement.{statement}
 use Rattle.cut.proofs.eat.Tie as tie
 
 abbrev Inv-loop : tie.InvT-loop
-Inv-loop chunk from buf₀ t₀ i₀ buf t i = (i ≤ length chunk) × (length buf ≡ mostBytes) × (t .held ≤ mostBytes) × Going (eatOf (drop from chunk) (stateOf buf₀ t₀)) (eatOf (drop i chunk) (stateOf buf t)) from i
+Inv-loop chunk from buf₀ t₀ i₀ buf t i =
+    (i ≤ length chunk) × (length buf ≡ mostBytes) × (t .held ≤ mostBytes) × Going (eatOf (drop from chunk) (stateOf buf₀ t₀))
+    (eatOf (drop i chunk) (stateOf buf t)) from i
 
 abbrev μ-loop : tie.MeasureT-loop
 μ-loop chunk from buf₀ t₀ i₀ buf t i = length chunk - i
@@ -32,10 +34,14 @@ same-length c = search needs
 
 returns : tie.Need-returns Inv-loop μ-loop
 returns c =
-    let l = c .before .before .before .loop in
-    let a = c .before .before .before .before .before .before .args in
-    let q = eat-here (a .chunk .now) (l .i) (stateOf (l .buf) (l .t)) (omega arith) (c .if1 .taken) in
-    (ready-at (record { «is_done» = true; at = l .i + 1; cut = l .t }) (eatOf (drop (a .from) (a .chunk .now)) (stateOf (a .buf .now) (a .c))) (eatOf (drop (l .i) (a .chunk .now)) (stateOf (l .buf) (l .t))) (l .buf) (a .from) (l .i) 1 (l .inv .3) q refl, (omega arith, l .inv .2))
+    let x = c .before .before .before in
+    let l = x .loop in
+    let a = x .before .before .before .args in
+    let q = eat-here (a .chunk .now) (l .i) (stateOf (l .buf) (l .t)) (omega arith) (c .if1 .taken) in (
+      ready-at (record { «is_done» = true; at = l .i + 1; cut = l .t }) (eatOf (drop (a .from) (a .chunk .now)) (stateOf (a .buf .now) (a .c)))
+          (eatOf (drop (l .i) (a .chunk .now)) (stateOf (l .buf) (l .t))) (l .buf) (a .from) (l .i) 1 (l .inv .3) q refl,
+      (omega arith, l .inv .2),
+    )
 
 push-requires : tie.Need-push-requires Inv-loop μ-loop
 push-requires c κs = search needs
@@ -48,12 +54,20 @@ loop-less c = search needs
 
 loop-again : tie.Need-loop-again Inv-loop μ-loop
 loop-again c =
-    let l = c .before .before .before .before .before .before .before .loop in
-    let a = c .before .before .before .before .before .before .before .before .before .before .args in
+    let x = c .before .before .before .before in
+    let y = x .before .before .before in
+    let l = y .loop in
+    let a = y .before .before .before .args in
     let p = c .before .before .push in
-    let q = eat-on (a .chunk .now) (l .i) (stateOf (l .buf) (l .t)) (omega arith) (c .before .before .before .before .if1 .left) in
-    let r = ap (λ (h : Held). more (eatOf (drop (l .i + 1) (a .chunk .now)) h)) (sym (p .ensures .0)) in
-    (omega arith, omega arith, p .ensures .1, going-on (eatOf (drop (a .from) (a .chunk .now)) (stateOf (a .buf .now) (a .c))) (eatOf (drop (l .i) (a .chunk .now)) (stateOf (l .buf) (l .t))) (eatOf (drop (l .i + 1) (a .chunk .now)) (stateOf (p .last .0) (p .result))) (a .from) (l .i) (l .inv .3) (q ∙ r))
+    let q = eat-on (a .chunk .now) (l .i) (stateOf (l .buf) (l .t)) (omega arith) (x .if1 .left) in
+    let r = ap (λ (h : Held). more (eatOf (drop (l .i + 1) (a .chunk .now)) h)) (sym (p .ensures .0)) in (
+      omega arith,
+      omega arith,
+      p .ensures .1,
+      going-on (eatOf (drop (a .from) (a .chunk .now)) (stateOf (a .buf .now) (a .c)))
+          (eatOf (drop (l .i) (a .chunk .now)) (stateOf (l .buf) (l .t))) (eatOf (drop (l .i + 1) (a .chunk .now)) (stateOf (p .last .0) (p .result))) (a .from)
+          (l .i) (l .inv .3) (q ∙ r),
+    )
 
 same-length-2 : tie.Need-same-length-2 Inv-loop μ-loop
 same-length-2 c = search needs
@@ -62,8 +76,11 @@ returns-2 : tie.Need-returns-2 Inv-loop μ-loop
 returns-2 c =
     let l = c .before .loop in
     let a = c .before .before .before .before .args in
-    let q = eat-none (a .chunk .now) (l .i) (stateOf (l .buf) (l .t)) (omega arith) in
-    (ready-at (record { «is_done» = false; at = l .i; cut = l .t }) (eatOf (drop (a .from) (a .chunk .now)) (stateOf (a .buf .now) (a .c))) (eatOf (drop (l .i) (a .chunk .now)) (stateOf (l .buf) (l .t))) (l .buf) (a .from) (l .i) 0 (l .inv .3) q (omega arith), (omega arith, l .inv .2))
+    let q = eat-none (a .chunk .now) (l .i) (stateOf (l .buf) (l .t)) (omega arith) in (
+      ready-at (record { «is_done» = false; at = l .i; cut = l .t }) (eatOf (drop (a .from) (a .chunk .now)) (stateOf (a .buf .now) (a .c)))
+          (eatOf (drop (l .i) (a .chunk .now)) (stateOf (l .buf) (l .t))) (l .buf) (a .from) (l .i) 0 (l .inv .3) q (omega arith),
+      (omega arith, l .inv .2),
+    )
 
 pub eat-spec : {M : Type 1} → statement M
 eat-spec =

@@ -15,10 +15,18 @@ same-length : tie.Need-same-length
 same-length c = search needs
 
 returns : tie.Need-returns
-returns c = (push-room (c .before .args .buf .now) (c .before .args .c .held) (c .before .args .b) (c .before .args .c .«is_long») (c .if1 .taken) (c .before .pre .0), omega arith)
+returns c = (
+  push-room (c .before .args .buf .now) (c .before .args .c .held) (c .before .args .b) (c .before .args .c .«is_long») (c .if1 .taken)
+      (c .before .pre .0),
+  omega arith,
+)
 
 returns-2 : tie.Need-returns-2
-returns-2 c = (push-full (c .before .args .buf .now) (c .before .args .c .held) (c .before .args .b) (c .before .args .c .«is_long») (c .if1 .left) (c .before .pre .1) (c .before .pre .0), omega arith)
+returns-2 c = (
+  push-full (c .before .args .buf .now) (c .before .args .c .held) (c .before .args .b) (c .before .args .c .«is_long») (c .if1 .left) (c .before .pre .1)
+      (c .before .pre .0),
+  omega arith,
+)
 
 pub push-spec : {M : Type 1} → statement M
 push-spec = tie.close (tie.spec slice-write-buf add-t7 same-length returns returns-2)

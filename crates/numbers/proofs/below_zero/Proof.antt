@@ -9,10 +9,19 @@ enum-known-n : tie.Need-enum-known-n
 enum-known-n c = search needs
 
 cast-t6 : tie.Need-cast-t6
-cast-t6 c = record { sfits = omega (arith, value-small (c .before .before .before .before .args .n) (c .before .before .n .given .0 .0) (c .before .before .n .given .1) (c .before .before .before .before .pre)) }
+cast-t6 c =
+    record {
+      sfits = omega (
+        arith,
+        value-small (c .before .before .before .before .args .n) (c .before .before .n .given .0 .0)
+            (c .before .before .n .given .1) (c .before .before .before .before .pre),
+      );
+    }
 
 sub-t7 : tie.Need-sub-t7
-sub-t7 c = negated-at (c .before .before .before .before .args .n) (c .before .before .n .given .0 .0) (c .before .before .n .given .1) (c .if1 .left) (c .before .before .before .before .pre) .0
+sub-t7 c =
+    negated-at (c .before .before .before .before .args .n) (c .before .before .n .given .0 .0) (c .before .before .n .given .1) (c .if1 .left)
+    (c .before .before .before .before .pre) .0
 
 enum-told : tie.Need-enum-told
 enum-told c = search needs
@@ -21,7 +30,9 @@ returns : tie.Need-returns
 returns c = none-below (c .before .before .before .before .args .n) (c .before .before .n .given .0 .0) (c .before .before .n .given .1) (c .if1 .taken)
 
 returns-2 : tie.Need-returns-2
-returns-2 c = negated-at (c .before .before .before .before .args .n) (c .before .before .n .given .0 .0) (c .before .before .n .given .1) (c .if1 .left) (c .before .before .before .before .pre) .1
+returns-2 c =
+    negated-at (c .before .before .before .before .args .n) (c .before .before .n .given .0 .0) (c .before .before .n .given .1) (c .if1 .left)
+    (c .before .before .before .before .pre) .1
 
 returns-3 : tie.Need-returns-3
 returns-3 c = search needs

@@ -9,7 +9,14 @@ enum-known-n : tie.Need-enum-known-n
 enum-known-n c = search needs
 
 cast-t4 : tie.Need-cast-t4
-cast-t4 c = record { sfits = omega (arith, value-small (c .before .before .before .args .n) (c .before .n .given .0 .0) (c .before .n .given .1) (c .before .before .before .pre)) }
+cast-t4 c =
+    record {
+      sfits = omega (
+        arith,
+        value-small (c .before .before .before .args .n) (c .before .n .given .0 .0) (c .before .n .given .1)
+            (c .before .before .before .pre),
+      );
+    }
 
 enum-told : tie.Need-enum-told
 enum-told c = search needs

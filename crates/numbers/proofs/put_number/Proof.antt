@@ -13,7 +13,8 @@ use Rattle.numbers.proofs.put_number.Statement.{statement}
 use Rattle.numbers.proofs.put_number.Tie as tie
 
 abbrev Inv-loop : tie.InvT-loop
-Inv-loop out₀ at x w y₀ k₀ out y k = (k ≤ w) × (w ≡ widthOf x) × (at + w ≤ length out₀) × (length out ≡ length out₀) × (sets out at (lastDigits k y) ≡ sets out₀ at (digitsOf x))
+Inv-loop out₀ at x w y₀ k₀ out y k =
+    (k ≤ w) × (w ≡ widthOf x) × (at + w ≤ length out₀) × (length out ≡ length out₀) × (sets out at (lastDigits k y) ≡ sets out₀ at (digitsOf x))
 
 abbrev μ-loop : tie.MeasureT-loop
 μ-loop out₀ at x w y₀ k₀ out y k = k

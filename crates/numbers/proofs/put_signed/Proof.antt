@@ -30,10 +30,12 @@ same-length c = c .before .before .put-number .kept .0 ∙ simp length-set
 
 returns : tie.Need-returns
 returns c =
-    let m = c .before .before .before .before .before .magnitude in
-    let s = c .before .before .before .before .before .before .before in
+    let x = c .before .before .before .before .before in
+    let m = x .magnitude in
+    let s = x .before .before in
     let p = c .before .before .put-number in
-    neg-put (s .args .z) (s .pre .1) (m .result) (m .ensures) (s .args .at) (p .result) (s .args .out .now) (p .last .0) (c .before .before .before .before .if1 .taken) (p .ensures .0) (p .ensures .1)
+    neg-put (s .args .z) (s .pre .1) (m .result) (m .ensures) (s .args .at) (p .result) (s .args .out .now) (p .last .0)
+    (c .before .before .before .before .if1 .taken) (p .ensures .0) (p .ensures .1)
 
 put-number-requires-2 : tie.Need-put-number-requires-2
 put-number-requires-2 c κs =
@@ -46,10 +48,12 @@ same-length-2 c = search needs
 
 returns-2 : tie.Need-returns-2
 returns-2 c =
-    let m = c .before .before .before .before .before .magnitude in
-    let s = c .before .before .before .before .before .before .before in
+    let x = c .before .before .before .before .before in
+    let m = x .magnitude in
+    let s = x .before .before in
     let p = c .before .before .put-number2 in
-    pos-put (s .args .z) (s .pre .1) (m .result) (m .ensures) (s .args .at) (p .result) (s .args .out .now) (p .last .0) (c .before .before .before .before .if1 .left) (p .ensures .0) (p .ensures .1)
+    pos-put (s .args .z) (s .pre .1) (m .result) (m .ensures) (s .args .at) (p .result) (s .args .out .now) (p .last .0)
+    (c .before .before .before .before .if1 .left) (p .ensures .0) (p .ensures .1)
 
 pub put-signed-spec : {M : Type 1} → statement M
 put-signed-spec =

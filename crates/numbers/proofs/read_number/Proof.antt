@@ -26,28 +26,42 @@ shared-slice-read-if3 : tie.Need-shared-slice-read-if3 Inv-loop μ-loop
 shared-slice-read-if3 c = search needs
 
 returns-3 : tie.Need-returns-3 Inv-loop μ-loop
-returns-3 c = sym (read-leading (c .before .before .before .before .before .before .args .field .now) (omega arith) (omega arith) (c .before .if3 .taken) (omega arith))
+returns-3 c =
+    let x = c .before in
+    sym (read-leading (x .before .before .before .before .before .args .field .now) (omega arith) (omega arith) (x .if3 .taken) (omega arith))
 
 returns-4 : tie.Need-returns-4 Inv-loop μ-loop
-returns-4 c = sym (read-zero (c .before .before .before .before .before .before .args .field .now) (omega arith) (omega arith) (c .before .if3 .taken) (omega arith))
+returns-4 c =
+    let x = c .before in
+    sym (read-zero (x .before .before .before .before .before .args .field .now) (omega arith) (omega arith) (x .if3 .taken) (omega arith))
 
 loop-holds : tie.Need-loop-holds Inv-loop μ-loop
-loop-holds c =
-    (omega arith, refl, omega arith, omega arith, read-digits (c .before .before .before .before .before .args .field .now) (omega arith) (omega arith) (c .if3 .left))
+loop-holds c = (
+  omega arith,
+  refl,
+  omega arith,
+  omega arith,
+  read-digits (c .before .before .before .before .before .args .field .now) (omega arith) (omega arith)
+      (c .if3 .left),
+)
 
 shared-slice-read-b : tie.Need-shared-slice-read-b Inv-loop μ-loop
 shared-slice-read-b c = search needs
 
 returns-5 : tie.Need-returns-5 Inv-loop μ-loop
 returns-5 c =
-    let l = c .before .before .before .loop in
-    let f = c .before .before .before .before .before .before .before .before .before .args .field .now in
+    let y = c .before .before .before in
+    let z = y .before .before .before .before .before in
+    let l = y .loop in
+    let f = z .before .args .field .now in
     sym (l .inv .4 ∙ read-low f (l .i) (l .x) (omega arith) (c .if5 .taken))
 
 returns-6 : tie.Need-returns-6 Inv-loop μ-loop
 returns-6 c =
-    let l = c .before .before .before .before .loop in
-    let f = c .before .before .before .before .before .before .before .before .before .before .args .field .now in
+    let y = c .before .before .before .before in
+    let z = y .before .before .before .before .before in
+    let l = y .loop in
+    let f = z .before .args .field .now in
     sym (l .inv .4 ∙ read-high f (l .i) (l .x) (omega arith) (c .if6 .taken))
 
 mul-x : tie.Need-mul-x Inv-loop μ-loop
@@ -57,7 +71,8 @@ wide-requires : tie.Need-wide-requires Inv-loop μ-loop
 wide-requires c κs = search needs
 
 add-x : tie.Need-add-x Inv-loop μ-loop
-add-x c = omega (arith, fits (c .before .before .before .before .before .loop .x) (c .before .before .before .before .before .loop .i) (search needs) (omega arith))
+add-x c =
+    omega (arith, fits (c .before .before .before .before .before .loop .x) (c .before .before .before .before .before .loop .i) (search needs) (omega arith))
 
 add-i : tie.Need-add-i Inv-loop μ-loop
 add-i c = search needs
@@ -67,15 +82,19 @@ loop-less c = search needs
 
 loop-again : tie.Need-loop-again Inv-loop μ-loop
 loop-again c =
-    let l = c .before .before .before .before .before .loop in
+    let y = c .before .before .before .before .before in
+    let z = y .before .before .before .before .before in
+    let l = y .loop in
     let d = c .wide .ensures in
     let g = grows (l .x) (l .i) (c .wide .result) (l .inv .3) (omega arith) in
-    (omega arith, refl, omega arith, g, rw d (l .inv .4 ∙ read-step (c .before .before .before .before .before .before .before .before .before .before .before .args .field .now) (l .i) (l .x) (omega arith) (omega arith) (omega arith)))
+    (omega arith, refl, omega arith, g, rw d (l .inv .4 ∙ read-step (z .before .args .field .now) (l .i) (l .x) (omega arith) (omega arith) (omega arith)))
 
 returns-7 : tie.Need-returns-7 Inv-loop μ-loop
 returns-7 c =
-    let l = c .before .loop in
-    let f = c .before .before .before .before .before .before .before .args .field .now in
+    let y = c .before in
+    let z = y .before .before .before .before .before in
+    let l = y .loop in
+    let f = z .before .args .field .now in
     sym (l .inv .4 ∙ read-end f (l .i) (l .x) (omega arith))
 
 pub read-number-spec : {M : Type 1} → statement M

@@ -30,13 +30,15 @@ read-number-requires c κs = search needs
 
 below-zero-requires : tie.Need-below-zero-requires
 below-zero-requires c κs =
-    let f = c .before .before .before .before .before .before .args .field .now in
+    let x = c .before .before .before .before .before in
+    let f = x .before .args .field .now in
     small-of _ (take (length f - 1) (drop 1 f)) (c .read-number .ensures)
 
 returns-2 : tie.Need-returns-2
 returns-2 c =
-    let f = c .before .before .before .before .before .before .before .args .field .now in
-    rw (eq-eqb _ _ (c .before .before .before .if2 .taken)) (c .below-zero .ensures ∙ ap belowZero (c .before .read-number .ensures ∙ ap numberOf (rest-all 1 f)))
+    let x = c .before .before .before in
+    let f = x .before .before .before .before .args .field .now in
+    rw (eq-eqb _ _ (x .if2 .taken)) (c .below-zero .ensures ∙ ap belowZero (c .before .read-number .ensures ∙ ap numberOf (rest-all 1 f)))
 
 read-number-requires-2 : tie.Need-read-number-requires-2
 read-number-requires-2 c κs = search needs

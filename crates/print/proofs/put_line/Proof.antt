@@ -24,19 +24,27 @@ array-share-prefix-zs : tie.Need-array-share-prefix-zs
 array-share-prefix-zs c = c .before .before .before .before .row-of .ensures .2
 
 slice-aggregate-put-text-2 : tie.Need-slice-aggregate-put-text-2
-slice-aggregate-put-text-2 c = let r = c .before .before .before .before .before .row-of in sym (length-take-le (r .result .many) (r .result .numbers) (r .ensures .2))
+slice-aggregate-put-text-2 c =
+    let r = c .before .before .before .before .before .row-of in sym (length-take-le (r .result .many) (r .result .numbers) (r .ensures .2))
 
 put-text-requires : tie.Need-put-text-requires
-put-text-requires c κs = let r = c .before .before .before .before .before .row-of in row-room (r .result) (c .before .before .before .before .before .before .before .before .args .s) (r .ensures .0) (c .before .before .before .before .before .before .before .before .args .out .now) (omega arith) (c .before .before .before .before .before .before .before .before .pre)
+put-text-requires c κs =
+    let x = c .before .before .before .before .before in
+    let r = x .row-of in
+    row-room (r .result) (x .before .before .before .args .s) (r .ensures .0) (x .before .before .before .args .out .now) (omega arith)
+    (x .before .before .before .pre)
 
 same-length : tie.Need-same-length
 same-length c = search needs
 
 returns-2 : tie.Need-returns-2
 returns-2 c =
-    let r = c .before .before .before .before .before .before .before .before .row-of in
-    let p = c .before .before .put-text in
-    row-put (r .result) (c .before .before .before .before .before .before .before .before .before .before .before .args .s) (r .ensures .0) (c .before .before .before .before .before .before .before .before .before .before .before .args .out .now) (omega arith) (p .last .0) (p .result) (p .ensures .0) (p .ensures .1)
+    let x = c .before .before in
+    let y = x .before .before .before .before .before in
+    let r = y .before .row-of in
+    let p = x .put-text in
+    row-put (r .result) (y .before .before .before .before .args .s) (r .ensures .0) (y .before .before .before .before .args .out .now) (omega arith)
+    (p .last .0) (p .result) (p .ensures .0) (p .ensures .1)
 
 pub put-line-spec : {M : Type 1} → statement M
 put-line-spec =

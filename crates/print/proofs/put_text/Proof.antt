@@ -14,17 +14,20 @@ put-start-requires c κs =
 
 put-bytes-requires : tie.Need-put-bytes-requires
 put-bytes-requires c κs =
-    let s = c .before .before .before .before .before .before .before in
+    let x = c .before .before .before in
+    let s = x .before .before .before .before in
     let p = shownIf (s .args .shown) (s .args .line) (s .args .word .now) (s .args .zs .now) in
-    let a = c .before .before .before .put-start in
+    let a = x .put-start in
     omega (arith, line-length p, s .pre .0, a .ensures .0, a .kept)
 
 put-fields-requires : tie.Need-put-fields-requires
 put-fields-requires c κs =
-    let s = c .before .before .before .before .before .before .before .before .before .before .before in
+    let x = c .before .before .before in
+    let y = x .before .before .before .before in
+    let s = y .before .before .before .before in
     let p = shownIf (s .args .shown) (s .args .line) (s .args .word .now) (s .args .zs .now) in
-    let a = c .before .before .before .before .before .before .before .put-start in
-    let b = c .before .before .before .put-bytes in
+    let a = y .put-start in
+    let b = x .put-bytes in
     (omega (arith, line-length p, s .pre .0, a .ensures .0, a .kept, b .ensures .0, b .kept), s .pre .1)
 
 slice-aggregate-put-bytes : tie.Need-slice-aggregate-put-bytes
@@ -32,11 +35,14 @@ slice-aggregate-put-bytes c = search needs
 
 put-bytes-requires-2 : tie.Need-put-bytes-requires-2
 put-bytes-requires-2 c κs =
-    let s = c .before .before .before .before .before .before .before .before .before .before .before .before .before .before .before .before in
+    let x = c .before .before .before .before in
+    let y = x .before .before .before .before in
+    let z = y .before .before .before .before in
+    let s = z .before .before .before .before in
     let p = shownIf (s .args .shown) (s .args .line) (s .args .word .now) (s .args .zs .now) in
-    let a = c .before .before .before .before .before .before .before .before .before .before .before .before .put-start in
-    let b = c .before .before .before .before .before .before .before .before .put-bytes in
-    let d = c .before .before .before .before .put-fields in
+    let a = z .put-start in
+    let b = y .put-bytes in
+    let d = x .put-fields in
     omega (arith, line-length p, s .pre .0, a .ensures .0, a .kept, b .ensures .0, b .kept, d .ensures .0, d .kept)
 
 same-length : tie.Need-same-length
@@ -44,13 +50,18 @@ same-length c = search needs
 
 returns : tie.Need-returns
 returns c =
-    let s = c .before .before .before .before .before .before .before .before .before .before .before .before .before .before .before .before .before .before .before in
+    let x = c .before .before in
+    let y = x .before .before .before .before .before in
+    let z = y .before .before .before .before in
+    let v = z .before .before .before .before in
+    let s = v .before .before .before .before in
     let p = shownIf (s .args .shown) (s .args .line) (s .args .word .now) (s .args .zs .now) in
-    let a = c .before .before .before .before .before .before .before .before .before .before .before .before .before .before .before .put-start in
-    let b = c .before .before .before .before .before .before .before .before .before .before .before .put-bytes in
-    let d = c .before .before .before .before .before .before .before .put-fields in
-    let e = c .before .before .put-bytes2 in
-    text-put p (s .args .out .now) (a .last .0) (b .last .0) (d .last .0) (e .last .0) (a .result) (b .result) (d .result) (e .result) (a .ensures .0) (a .ensures .1) (b .ensures .0) (b .ensures .1) (d .ensures .0) (d .ensures .1) (e .ensures .0) (e .ensures .1)
+    let a = v .put-start in
+    let b = z .put-bytes in
+    let d = y .put-fields in
+    let e = x .put-bytes2 in
+    text-put p (s .args .out .now) (a .last .0) (b .last .0) (d .last .0) (e .last .0) (a .result) (b .result) (d .result) (e .result) (a .ensures .0)
+    (a .ensures .1) (b .ensures .0) (b .ensures .1) (d .ensures .0) (d .ensures .1) (e .ensures .0) (e .ensures .1)
 
 pub put-text-spec : {M : Type 1} → statement M
 put-text-spec =

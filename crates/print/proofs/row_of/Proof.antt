@@ -77,10 +77,14 @@ whole-requires-12 : tie.Need-whole-requires-12
 whole-requires-12 c κs = omega (arith, in-range _ _ (c .before .before .before .s6 .given .1) (c .before .before .before .before .before .pre))
 
 whole-requires-13 : tie.Need-whole-requires-13
-whole-requires-13 c κs = omega (arith, in-range _ _ (c .before .before .before .before .s6 .given .1) (c .before .before .before .before .before .before .pre))
+whole-requires-13 c κs =
+    let x = c .before .before .before .before in
+    omega (arith, in-range _ _ (x .s6 .given .1) (x .before .before .pre))
 
 whole-requires-14 : tie.Need-whole-requires-14
-whole-requires-14 c κs = omega (arith, in-range _ _ (c .before .before .before .before .before .s6 .given .1) (c .before .before .before .before .before .before .before .pre))
+whole-requires-14 c κs =
+    let x = c .before .before .before .before .before in
+    omega (arith, in-range _ _ (x .s6 .given .1) (x .before .before .pre))
 
 numbered-requires-6 : tie.Need-numbered-requires-6
 numbered-requires-6 c κs = search needs
@@ -116,49 +120,101 @@ returns : tie.Need-returns
 returns c =
     let g = c .before .before .before .s .given in
     let h = in-range _ _ (g .1) (c .before .before .before .before .before .pre) in
-    rw (c .numbered .ensures, g .1, handed-on (c .before .whole .result) (pos (g .0 .1 .0)) (c .before .whole .ensures) (omega arith), handed-on (g .0 .1 .1 .0) (g .0 .1 .1 .0) refl (omega arith)) (refl, omega arith, omega arith)
+    rw (
+      c .numbered .ensures,
+      g .1,
+      handed-on (c .before .whole .result) (pos (g .0 .1 .0)) (c .before .whole .ensures) (omega arith),
+      handed-on
+          (g .0 .1 .1 .0) (g .0 .1 .1 .0) refl (omega arith),
+    ) (refl, omega arith, omega arith)
 
 returns-2 : tie.Need-returns-2
 returns-2 c =
-    let g = c .before .before .before .before .s2 .given in
-    let h = in-range _ _ (g .1) (c .before .before .before .before .before .before .pre) in
-    rw (c .numbered2 .ensures, g .1, handed-on (c .before .before .whole2 .result) (pos (g .0 .1 .0)) (c .before .before .whole2 .ensures) (omega arith), handed-on (c .before .whole3 .result) (pos (g .0 .1 .1 .0)) (c .before .whole3 .ensures) (omega arith)) (refl, omega arith, omega arith)
+    let x = c .before .before .before .before in
+    let g = x .s2 .given in
+    let h = in-range _ _ (g .1) (x .before .before .pre) in
+    rw (
+      c .numbered2 .ensures,
+      g .1,
+      handed-on (c .before .before .whole2 .result) (pos (g .0 .1 .0)) (c .before .before .whole2 .ensures) (omega arith),
+      handed-on (c .before .whole3 .result) (pos (g .0 .1 .1 .0)) (c .before .whole3 .ensures) (omega arith),
+    ) (refl, omega arith, omega arith)
 
 returns-3 : tie.Need-returns-3
 returns-3 c =
     let g = c .before .before .before .s3 .given in
     let h = in-range _ _ (g .1) (c .before .before .before .before .before .pre) in
-    rw (c .numbered3 .ensures, g .1, handed-on (c .before .whole4 .result) (pos (g .0 .1 .0)) (c .before .whole4 .ensures) (omega arith), handed-on (g .0 .1 .1 .0) (g .0 .1 .1 .0) refl (omega arith)) (refl, omega arith, omega arith)
+    rw (
+      c .numbered3 .ensures,
+      g .1,
+      handed-on (c .before .whole4 .result) (pos (g .0 .1 .0)) (c .before .whole4 .ensures) (omega arith),
+      handed-on
+          (g .0 .1 .1 .0) (g .0 .1 .1 .0) refl (omega arith),
+    ) (refl, omega arith, omega arith)
 
 returns-4 : tie.Need-returns-4
 returns-4 c =
-    let g = c .before .before .before .before .before .s4 .given in
-    let h = in-range _ _ (g .1) (c .before .before .before .before .before .before .before .pre) in
-    rw (c .numbered4 .ensures, g .1, handed-on (c .before .before .before .whole5 .result) (pos (g .0 .1 .0)) (c .before .before .before .whole5 .ensures) (omega arith), handed-on (c .before .before .whole6 .result) (pos (g .0 .1 .1 .0)) (c .before .before .whole6 .ensures) (omega arith), handed-on (c .before .whole7 .result) (pos (g .0 .1 .1 .1 .0)) (c .before .whole7 .ensures) (omega arith)) (refl, omega arith, omega arith)
+    let x = c .before .before .before .before .before in
+    let g = x .s4 .given in
+    let h = in-range _ _ (g .1) (x .before .before .pre) in
+    rw (
+      c .numbered4 .ensures,
+      g .1,
+      handed-on (c .before .before .before .whole5 .result) (pos (g .0 .1 .0)) (c .before .before .before .whole5 .ensures) (omega arith),
+      handed-on (c .before .before .whole6 .result) (pos (g .0 .1 .1 .0)) (c .before .before .whole6 .ensures) (omega arith),
+      handed-on
+          (c .before .whole7 .result) (pos (g .0 .1 .1 .1 .0)) (c .before .whole7 .ensures) (omega arith),
+    ) (refl, omega arith, omega arith)
 
 returns-5 : tie.Need-returns-5
 returns-5 c =
-    let g = c .before .before .before .before .s5 .given in
-    let h = in-range _ _ (g .1) (c .before .before .before .before .before .before .pre) in
-    rw (c .numbered5 .ensures, g .1, handed-on (c .before .before .whole8 .result) (pos (g .0 .1 .0)) (c .before .before .whole8 .ensures) (omega arith), handed-on (c .before .whole9 .result) (pos (g .0 .1 .1 .0)) (c .before .whole9 .ensures) (omega arith)) (refl, omega arith, omega arith)
+    let x = c .before .before .before .before in
+    let g = x .s5 .given in
+    let h = in-range _ _ (g .1) (x .before .before .pre) in
+    rw (
+      c .numbered5 .ensures,
+      g .1,
+      handed-on (c .before .before .whole8 .result) (pos (g .0 .1 .0)) (c .before .before .whole8 .ensures) (omega arith),
+      handed-on (c .before .whole9 .result) (pos (g .0 .1 .1 .0)) (c .before .whole9 .ensures) (omega arith),
+    ) (refl, omega arith, omega arith)
 
 returns-6 : tie.Need-returns-6
 returns-6 c =
-    let g = c .before .before .before .before .before .before .before .s6 .given in
-    let h = in-range _ _ (g .1) (c .before .before .before .before .before .before .before .before .before .pre) in
-    rw (c .numbered6 .ensures, g .1, handed-on (c .before .before .before .before .before .whole10 .result) (pos (g .0 .1 .0)) (c .before .before .before .before .before .whole10 .ensures) (omega arith), handed-on (c .before .before .before .before .whole11 .result) (pos (g .0 .1 .1 .0)) (c .before .before .before .before .whole11 .ensures) (omega arith), handed-on (c .before .before .before .whole12 .result) (pos (g .0 .1 .1 .1 .0)) (c .before .before .before .whole12 .ensures) (omega arith), handed-on (c .before .before .whole13 .result) (pos (g .0 .1 .1 .1 .1 .0)) (c .before .before .whole13 .ensures) (omega arith), handed-on (c .before .whole14 .result) (pos (g .0 .1 .1 .1 .1 .1 .0)) (c .before .whole14 .ensures) (omega arith)) (refl, omega arith, omega arith)
+    let x = c .before .before .before .before .before in
+    let g = x .before .before .s6 .given in
+    let h = in-range _ _ (g .1) (x .before .before .before .before .pre) in
+    rw (
+      c .numbered6 .ensures,
+      g .1,
+      handed-on (x .whole10 .result) (pos (g .0 .1 .0)) (x .whole10 .ensures) (omega arith),
+      handed-on
+          (c .before .before .before .before .whole11 .result) (pos (g .0 .1 .1 .0)) (c .before .before .before .before .whole11 .ensures) (omega arith),
+      handed-on (c .before .before .before .whole12 .result) (pos (g .0 .1 .1 .1 .0)) (c .before .before .before .whole12 .ensures) (omega arith),
+      handed-on (c .before .before .whole13 .result) (pos (g .0 .1 .1 .1 .1 .0)) (c .before .before .whole13 .ensures) (omega arith),
+      handed-on (c .before .whole14 .result) (pos (g .0 .1 .1 .1 .1 .1 .0)) (c .before .whole14 .ensures) (omega arith),
+    )
+    (refl, omega arith, omega arith)
 
 returns-7 : tie.Need-returns-7
 returns-7 c =
     let g = c .before .before .before .s7 .given in
     let h = in-range _ _ (g .1) (c .before .before .before .before .before .pre) in
-    rw (c .numbered7 .ensures, g .1, handed-on (c .before .whole15 .result) (pos (g .0 .1 .0)) (c .before .whole15 .ensures) (omega arith)) (refl, omega arith, omega arith)
+    rw (c .numbered7 .ensures, g .1, handed-on (c .before .whole15 .result) (pos (g .0 .1 .0)) (c .before .whole15 .ensures) (omega arith))
+    (refl, omega arith, omega arith)
 
 returns-8 : tie.Need-returns-8
 returns-8 c =
-    let g = c .before .before .before .before .s8 .given in
-    let h = in-range _ _ (g .1) (c .before .before .before .before .before .before .pre) in
-    rw (c .plain .ensures, g .1, handed-on (c .before .before .whole16 .result) (pos (g .0 .0)) (c .before .before .whole16 .ensures) (omega arith), handed-on (g .0 .1 .0) (g .0 .1 .0) refl (omega arith), handed-on (c .before .whole17 .result) (pos (g .0 .1 .1 .0)) (c .before .whole17 .ensures) (omega arith)) (refl, omega arith, omega arith)
+    let x = c .before .before .before .before in
+    let g = x .s8 .given in
+    let h = in-range _ _ (g .1) (x .before .before .pre) in
+    rw (
+      c .plain .ensures,
+      g .1,
+      handed-on (c .before .before .whole16 .result) (pos (g .0 .0)) (c .before .before .whole16 .ensures) (omega arith),
+      handed-on
+          (g .0 .1 .0) (g .0 .1 .0) refl (omega arith),
+      handed-on (c .before .whole17 .result) (pos (g .0 .1 .1 .0)) (c .before .whole17 .ensures) (omega arith),
+    ) (refl, omega arith, omega arith)
 
 returns-9 : tie.Need-returns-9
 returns-9 c =

@@ -31,7 +31,9 @@ wide-requires : tie.Need-wide-requires Inv-loop μ-loop
 wide-requires c κs = search needs
 
 returns : tie.Need-returns Inv-loop μ-loop
-returns c = let s = c .before .before .before .before .before in fit-not (s .args .counters .now) (s .args .counts .now) (λ e. c .if1 .taken (e ∙ sym (c .before .wide .ensures)))
+returns c =
+    let s = c .before .before .before .before .before in
+    fit-not (s .args .counters .now) (s .args .counts .now) (λ e. c .if1 .taken (e ∙ sym (c .before .wide .ensures)))
 
 loop-holds : tie.Need-loop-holds Inv-loop μ-loop
 loop-holds c = (c .before .wide .ensures, c .if1 .left, every-start)

@@ -1,24 +1,17 @@
 -- `settling::release` meets its contract: no loop; the head is found, and booked if balance + line reach its amount.
 use borrow.Author.Needs.{needs}
-use mathlib.Core.Path.{_≡_, sym, ap, ap₂, subst, _∙_}
-use mathlib.Core.Bool.{false, true}
+use mathlib.Core.Path.{sym, _∙_}
 use mathlib.Core.Logic.{_≢_}
-use Prim.Native.Nat.{_+_, _-_, _≤_, _<_}
+use Prim.Native.Nat.{_-_, _≤_, _<_}
 use native.Mathlib.Omega.{arith}
-use lib.IntN.{pos, _+ℤ_}
-use lib.Signed.{leZ}
-use lib.ListN.{getD}
-use Rattle.rule.specs.Payment.{amountOf}
 use Rattle.rule.specs.House.{waits}
 use Rattle.tables.specs.Sizes.{members}
-use Rattle.tables.specs.Layout.{Tables, tables, membersIn, waitingIn, houseIn, settledOf, balanceOf, lineOf}
+use Rattle.tables.specs.Layout.{Tables, tables, membersIn, waitingIn, houseIn}
 use Rattle.tables.proofs.Tests.{flag-no, flag-yes}
 use Rattle.tables.proofs.Houses.{waits-is}
 use Rattle.booking.specs.Booking.{HeadAt}
-use Rattle.answers.specs.Outcome.{outcome, held}
-use Rattle.answers.specs.declared.Released.the-variants.{Done}
 use Rattle.answers.proofs.Judging.{member-in}
-use Rattle.answers.proofs.Outcomes.{held-bad, answer-is}
+use Rattle.answers.proofs.Outcomes.{held-bad}
 use Rattle.settling.specs.Release.{releaseAct}
 use Rattle.settling.proofs.Settles.{settled-last, release-nothing, release-short, release-done, cover-fits}
 use Rattle.settling.proofs.release.Statement.{statement}
@@ -51,7 +44,8 @@ some c e =
     let s = begun (looked c) in
     c .if2 .left (c .before .waiting-of .ensures ∙ sym (waits-is (s .pre) (s .args .member - 1) (seat (looked c))) ∙ e)
 
-head : (c : tie.After-head-of) → let s = begun (looked (sought c)) in HeadAt (waitingIn (lent s)) (s .args .pays .now) (s .args .member - 1) (c .head-of .result)
+head : (c : tie.After-head-of) → let s = begun (looked (sought c)) in HeadAt (waitingIn (lent s)) (s .args .pays .now) (s .args .member - 1)
+    (c .head-of .result)
 head c = rw (c .before .wide .ensures) at (c .head-of .ensures)
 
 is-member-requires : tie.Need-is-member-requires
@@ -62,13 +56,16 @@ same-length c = search needs
 
 returns : tie.Need-returns
 unfolding releaseAct
-returns c = let s = c .before .before .before .before .before in sym (held-bad (releaseAct (s .args .member)) (lent s) (rw (flag-no (c .before .is-member .ensures) (c .if1 .taken))))
+returns c =
+    let s = c .before .before .before .before .before in
+    sym (held-bad (releaseAct (s .args .member)) (lent s) (rw (flag-no (c .before .is-member .ensures) (c .if1 .taken))))
 
 sub-seat : tie.Need-sub-seat
 sub-seat c = inside c .0
 
 waiting-of-requires : tie.Need-waiting-of-requires
-waiting-of-requires c κs = let s = begun (c .before) in (s .pre .counters .broad, seat (c .before), settled-last (s .pre) (s .args .member - 1) (seat (c .before)))
+waiting-of-requires c κs =
+    let s = begun (c .before) in (s .pre .counters .broad, seat (c .before), settled-last (s .pre) (s .args .member - 1) (seat (c .before)))
 
 same-length-2 : tie.Need-same-length-2
 same-length-2 c = search needs

@@ -1,21 +1,25 @@
 -- `settling::try_book` meets its contract: no loop; the test of the positions is the rule's, of each member.
 use borrow.Author.Needs.{needs}
-use mathlib.Core.Path.{_≡_, sym, ap₂, _∙_}
-use mathlib.Core.Bool.{Bool}
-use Rattle.tables.specs.Layout.{Tables, tables, membersIn, houseIn}
+use mathlib.Core.Path.{sym, ap₂, _∙_}
+use Rattle.tables.specs.Layout.{Tables, tables}
 use Rattle.tables.proofs.Tests.{flag-no, flag-yes}
-use Rattle.booking.specs.Booking.{listed, bookedIn}
+use Rattle.booking.specs.Booking.{listed}
 use Rattle.booking.proofs.Covering.{covered-is}
 use Rattle.answers.specs.Outcome.{outcome}
 use Rattle.answers.specs.declared.Grouped.the-variants.{Done}
 use Rattle.answers.proofs.Outcomes.{held-fine, held-bad}
-use Rattle.settling.specs.Group.{bookAct, isCovered}
+use Rattle.settling.specs.Group.{bookAct}
 use Rattle.settling.proofs.Settles.{tally-members}
 use Rattle.settling.proofs.try_book.Statement.{statement}
 use Rattle.settling.proofs.try_book.Tie as tie
 
+-- the tables as they were lent
 abbrev lent : tie.Start → Tables
 lent s = tables (s .args .accounts .now) (s .args .counters .now) (s .args .pays .now)
+
+-- from the weighing back to the start
+abbrev begun : tie.After-weigh → tie.Start
+begun w = let a = w .before .before .before in a .before .before .before .before
 
 weigh-requires : tie.Need-weigh-requires
 weigh-requires c κs = search needs
@@ -24,7 +28,10 @@ slice-aggregate-covered : tie.Need-slice-aggregate-covered
 slice-aggregate-covered c = search needs
 
 covered-requires : tie.Need-covered-requires
-covered-requires c κs = let h = c .before .before .before .before .before .before .before .before .before .before .pre .holds in ((h .counters, h .accounts), c .before .before .before .weigh .ensures .members)
+covered-requires c κs =
+    let w = c .before .before .before in
+    let h = begun w .pre .holds in
+    ((h .counters, h .accounts), w .weigh .ensures .members)
 
 same-length : tie.Need-same-length
 same-length c = search needs
@@ -38,8 +45,9 @@ same-length-3 c = search needs
 returns : tie.Need-returns
 unfolding bookAct
 returns c =
-    let s = c .before .before .before .before .before .before .before .before .before .before .before .before in
-    let e = sym (covered-is (s .pre .holds) (c .before .before .before .before .before .weigh .ensures)) ∙ flag-no (c .before .covered .ensures) (c .if1 .taken) in
+    let w = c .before .before .before .before .before in
+    let s = begun w in
+    let e = sym (covered-is (s .pre .holds) (w .weigh .ensures)) ∙ flag-no (c .before .covered .ensures) (c .if1 .taken) in
     sym (held-bad (bookAct (listed (s .args .counts .now))) (lent s) (rw e))
 
 slice-aggregate-book : tie.Need-slice-aggregate-book
@@ -66,10 +74,13 @@ same-length-6 c = search needs
 returns-2 : tie.Need-returns-2
 unfolding bookAct
 returns-2 c =
-    let s = c .before .before .before .before .before .before .before .before .before .before .before .before .before .before .before .before .before .before .before .before .before .before .before in
-    let b = c .before .before .before .before .before .before .book .ensures in
-    let e = sym (covered-is (s .pre .holds) (c .before .before .before .before .before .before .before .before .before .before .before .before .before .before .before .before .weigh .ensures)) ∙ flag-yes (c .before .before .before .before .before .before .before .before .before .before .before .before .covered .ensures) (c .before .before .before .before .before .before .before .before .before .before .before .if1 .left) in
-    ap₂ (λ r (W : Tables). outcome r W) (ap₂ Done (c .tally .ensures ∙ tally-members (s .pre)) (b .1)) (b .0)
+    let x = c .before .before .before .before in
+    let k = x .before .before in
+    let t = k .before .before .before .before .before in
+    let w = t .before .before .before .before .before in
+    let s = begun w in
+    let e = sym (covered-is (s .pre .holds) (w .weigh .ensures)) ∙ flag-yes (t .before .covered .ensures) (t .if1 .left) in
+    ap₂ (λ r (W : Tables). outcome r W) (ap₂ Done (c .tally .ensures ∙ tally-members (s .pre)) (k .book .ensures .1)) (k .book .ensures .0)
     ∙ sym (held-fine (bookAct (listed (s .args .counts .now))) (lent s) (rw e))
 
 pub try-book-spec : {M : Type 1} → statement M
