@@ -1,16 +1,17 @@
 -- A turn, as the code holds it: what it makes of the desk, that another follows exactly where it goes on, and that turns come to an end.
-use mathlib.Core.Path.{_≡_, refl, sym, _∙_}
+use mathlib.Core.Path.{_≡_, refl, sym, ap, _∙_}
 use mathlib.Core.Bool.{Bool, true, false, not, false≢true}
 use mathlib.Core.List.{List, [], _∷_}
 use Prim.Native.Nat.{ℕ, zero, suc, _+_, _-_, _≤_, _<_}
 use native.Mathlib.Omega.{arith}
 use borrow.Author.Tests.{ltb-true, ltb-false, lt-ltb, le-ltb, leb-true, not-true}
 use lib.Dec.{ltb}
-use lib.ListN.{length, take, drop, length-drop}
-use lib.Seq.{drop-drop, length-take-le}
+use lib.ListN.{length, take, drop, length-take, length-drop}
+use lib.Seq.{drop-drop, length-take-le, take-all}
 use Rattle.dayfile.specs.Entries.{mostCounts}
 use Rattle.cut.specs.Lines.{mostBytes}
-use Rattle.cut.specs.Chunks.{Held, none, lineOf, stateOf, eatOf}
+use Rattle.cut.specs.declared.Cut.{Cut}
+use Rattle.cut.specs.Chunks.{Held, none, lineOf, stateOf, Eaten, eatOf, WholeAt}
 use Rattle.cut.proofs.Chunks.{eats}
 use Rattle.tables.proofs.Tests.{and-both}
 use Rattle.print.specs.Room.{leastRoom, hasRoom}
@@ -42,6 +43,29 @@ module _ (chunk : List ℕ) (from : ℕ) (n : Night) (h : Held) where
       → _≡_ {A = Desk} (record { rest = drop at chunk; night = n; held = h₁ }) (eatTurn (record { rest = drop from chunk; night = n; held = h }))
   eat-open at h₁ p q r = rw (← p, ← r, drop-drop (eatOf (drop from chunk) h .used) from chunk, q)
 
+-- a line that stands in the chunk as a whole was answered
+module _ (chunk buf : List ℕ) (from : ℕ) (n : Night) {e : ℕ} {c k : Cut} (w : WholeAt chunk from c e) (l : e < length chunk)
+    (q : k ≡ record { held = e - from; «is_long» = false }) where
+  found : eatOf (drop from chunk) (stateOf buf c)
+      ≡ record { done = true; used = e - from + 1; held = record { bytes = take (e - from) (drop from chunk); over = false } }
+  found = ap (λ (h : Held). eatOf (drop from chunk) h) (w .none-held buf) ∙ w .eaten
+
+  line : stateOf (take (e - from) (drop from chunk)) k ≡ record { bytes = take (e - from) (drop from chunk); over = false }
+  line =
+      ap (λ (x : Cut). stateOf (take (e - from) (drop from chunk)) x) q
+      ∙ ap (λ (bs : List ℕ). record { bytes = bs; over = false })
+      (take-all (e - from) (take (e - from) (drop from chunk)) (omega (arith, length-take (e - from) (drop from chunk))))
+
+  pub whole-done : {n₁ : Night} → n₁ ≡ answered n (lineOf (stateOf (take (e - from) (drop from chunk)) k))
+      → _≡_ {A = Desk} (record { rest = drop (e + 1) chunk; night = n₁; held = none })
+      (eatTurn (record { rest = drop from chunk; night = n; held = stateOf buf c }))
+  whole-done {n₁} f =
+      eat-done chunk from n (stateOf buf c) (e + 1) (stateOf (take (e - from) (drop from chunk)) k) n₁
+      (sym (ap (λ (x : Eaten). x .done) found))
+      (omega (arith, ap (λ (x : Eaten). x .used) found, w .start))
+      (line ∙ sym (ap (λ (x : Eaten). x .held) found))
+      f
+
 -- and a byte was eaten
 pub eat-more : (chunk : List ℕ) (from : ℕ) (h : Held) (at : ℕ) → at ≡ from + eatOf (drop from chunk) h .used → from < length chunk → from < at
 eat-more chunk from h at q l = let n : 0 < length (drop from chunk) = omega (arith, length-drop from chunk) in omega (arith, eats (drop from chunk) h n)
@@ -63,7 +87,8 @@ eat-turned d e = rw e
 
 -- and at the end of the input the last one
 pub last-closed : (rest : List ℕ) (s r : State) (t u : Tables) (out out₁ buf : List ℕ) → isEnding (s .stage) ≡ false
-    → nightOf r u out₁ ≡ lastOf (take (s .cut .held) buf) (deskOf rest s t out buf) → r .cut ≡ fresh → deskOf rest r u out₁ buf ≡ closeTurn (deskOf rest s t out buf)
+    → nightOf r u out₁ ≡ lastOf (take (s .cut .held) buf) (deskOf rest s t out buf) → r .cut ≡ fresh
+    → deskOf rest r u out₁ buf ≡ closeTurn (deskOf rest s t out buf)
 last-closed rest s r t u out out₁ buf e q k = rw (e, q, k)
 
 module _ (s : State) (t : Tables) (out buf : List ℕ) where
@@ -163,7 +188,8 @@ module _ {turn : Desk → Desk} {goes : Desk → Bool} where
 
   module _ {d : Desk} {used : ℕ} {out₀ buf counts out : List ℕ} {t : Tables} {s : State} where
     -- after one turn more;
-    pub going-next : {rest rest₁ buf₁ counts₁ out₁ : List ℕ} {u : Tables} {r : State} → Going turn goes d used out₀ rest buf counts out t s → goes (deskOf rest s t out buf) ≡ true
+    pub going-next : {rest rest₁ buf₁ counts₁ out₁ : List ℕ} {u : Tables} {r : State} → Going turn goes d used out₀ rest buf counts out t s
+        → goes (deskOf rest s t out buf) ≡ true
         → deskOf rest₁ r u out₁ buf₁ ≡ turn (deskOf rest s t out buf) → Fit r u (length out) → Grown (s .used) (r .used) out out₁
         → length buf₁ ≡ length buf → length counts₁ ≡ length counts → length out₁ ≡ length out → Going turn goes d used out₀ rest₁ buf₁ counts₁ out₁ u r
     going-next {rest₁ = rest₁} {buf₁} {counts₁} {out₁} {u} {r} g e q f w a b o =

@@ -13,7 +13,6 @@ ghost use mathlib.Core.List.{_++_};
 ghost use Prim.Native.Nat.{_+_, _≤_, _<_};
 ghost use lib.ListN.{length, take};
 ghost use Rattle.answers.specs.declared.Refusal.the-variants.{Line};
-ghost use Rattle.cut.specs.Lines.{mostBytes};
 ghost use Rattle.cut.specs.Chunks.{lineOf, stateOf};
 ghost use Rattle.print.specs.Lines.{textOf};
 ghost use Rattle.print.specs.Room.{leastRoom};
@@ -37,7 +36,7 @@ pub fn line_on(
     s: State,
 ) -> State
     requires { ⌜ Fit s (tables (now accounts) (now counters) (now pays)) (length (now out)) × (isOver (s .stage) ≡ false) ⌝ }
-    requires { ⌜ (length (now counts) ≡ mostCounts) × (length (now buf) ≡ mostBytes) × (s .used + leastRoom ≤ length (now out)) ⌝ }
+    requires { ⌜ (length (now counts) ≡ mostCounts) × (s .cut .held ≤ length (now buf)) × (s .used + leastRoom ≤ length (now out)) ⌝ }
     ensures { λ r. ⌜ nightOf r (tables (now (accounts .exit)) (now (counters .exit)) (now (pays .exit))) (now (out .exit)) ≡ answered (nightOf s (tables (now (accounts .entry)) (now (counters .entry)) (now (pays .entry))) (now (out .entry))) (lineOf (stateOf (now (buf .entry)) (s .cut))) ⌝ }
     ensures { λ r. ⌜ Fit r (tables (now (accounts .exit)) (now (counters .exit)) (now (pays .exit))) (length (now (out .entry))) × (r .cut ≡ fresh) × Grown (s .used) (r .used) (now (out .entry)) (now (out .exit)) ⌝ }
 {

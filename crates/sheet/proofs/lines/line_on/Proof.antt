@@ -58,12 +58,19 @@ same-length-6 c = search needs
 
 returns-2 : tie.Need-returns-2
 returns-2 c =
-    let s = c .before .before .before .before .before .before .before .before .before .before .before .before in
+    let y = c .before .before in
+    let z = y .before .before .before .before .before in
+    let s = z .before .before .before .before .before in
     let t : Tables = tables (s .args .accounts .now) (s .args .counters .now) (s .args .pays .now) in
     let l : Line = lineOf (stateOf (s .args .buf .now) (s .args .s .cut)) in
-    let r = c .before .before .stop in (
+    let r = y .stop in (
       answered-stopped (s .args .s) t (s .args .out .now) l (s .pre .0 .1) (r .result) _ (omega arith) (r .ensures .0) (r .ensures .1),
-      (fit-over (s .args .s) t (length (s .args .out .now)) (r .result) (s .pre .0 .0) (r .ensures .0) (r .ensures .2), ap (λ (x : State). x .cut) (r .ensures .0), r .ensures .3),
+      (
+        fit-over (s .args .s) t (length (s .args .out .now)) (r .result) (s .pre .0 .0) (r .ensures .0) (r .ensures .2),
+        ap (λ (x : State). x .cut)
+            (r .ensures .0),
+        r .ensures .3,
+      ),
     )
 
 pub line-on-spec : {M : Type 1} → statement M

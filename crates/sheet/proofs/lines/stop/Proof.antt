@@ -14,7 +14,8 @@ same-length : tie.Need-same-length
 same-length c = search needs
 
 returns : tie.Need-returns
-returns c = rw (c .between .ensures) (refl, c .before .before .before .put .ensures .0, c .before .before .before .put .ensures .1, c .before .before .before .put .ensures .2)
+returns c =
+    rw (c .between .ensures) (refl, c .before .before .before .put .ensures .0, c .before .before .before .put .ensures .1, c .before .before .before .put .ensures .2)
 
 pub stop-spec : {M : Type 1} → statement M
 stop-spec = tie.close (tie.spec put-requires between-requires same-length returns)

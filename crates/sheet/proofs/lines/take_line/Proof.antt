@@ -17,7 +17,10 @@ answer-requires c κs = search needs
 
 tell-requires : tie.Need-tell-requires
 tell-requires c κs =
-    let s = c .before .before .before .before .before .before .before .before .before .before .before .before .before .before .before in
+    let x = c .before .before .before .before .before in
+    let y = x .before in
+    let z = y .before .before .before .before .before in
+    let s = z .before .before .before .before in
     let t : Tables = tables (s .args .accounts .now) (s .args .counters .now) (s .args .pays .now) in
     let a = c .before .before .before .before .before .before .answer in
     (s .pre .3, did-kept (s .args .s .lines + 1) (s .args .s .stage) t (meant (s .args .e) (s .args .counts .now)) (a .result) (tables (a .last .0) (a .last .1 .0) (a .last .1 .1 .0)) (omega arith) (λ i. omega (arith, c .before .before .before .before .before .before .before .before .before .before .before .before .before .slice-known .given i)) (s .pre .0 .stands) (a .ensures) .ranges)
@@ -39,9 +42,13 @@ same-length-4 c = search needs
 
 returns : tie.Need-returns
 returns c =
-    let s = c .before .before .before .before .before .before .before .before .before .before .before .before .before .before .before .before .before .before .before in
+    let x = c .before .before .before in
+    let y = x .before .before .before .before .before in
+    let z = y .before .before in
+    let v = z .before .before .before .before .before in
+    let s = v .before .before .before .before in
     let t : Tables = tables (s .args .accounts .now) (s .args .counters .now) (s .args .pays .now) in
-    let a = c .before .before .before .before .before .before .before .before .before .before .answer in
+    let a = z .answer in
     let u : Tables = tables (a .last .0) (a .last .1 .0) (a .last .1 .1 .0) in
     let k = did-kept (s .args .s .lines + 1) (s .args .s .stage) t (meant (s .args .e) (s .args .counts .now)) (a .result) u (omega arith) (λ i. omega (arith, c .before .before .before .before .before .before .before .before .before .before .before .before .before .before .before .before .before .slice-known .given i)) (s .pre .0 .stands) (a .ensures) in
     let p = c .before .before .before .tell in

@@ -13,8 +13,10 @@ is-ending-requires c κs = search needs
 
 end-on-requires : tie.Need-end-on-requires
 end-on-requires c κs =
-    let s = c .before .before .before .before .before .before .before .before .before .before .before in
-    (s .pre .0, sym (c .before .before .before .before .before .is-ending .ensures) ∙ c .before .before .before .before .if1 .taken, closes-room (length (s .args .out .now)) (s .args .s) (s .pre .3))
+    let x = c .before .before .before .before .before in
+    let y = x .before .before .before .before .before in
+    let s = y .before in
+    (s .pre .0, sym (x .is-ending .ensures) ∙ c .before .before .before .before .if1 .taken, closes-room (length (s .args .out .now)) (s .args .s) (s .pre .3))
 
 same-length : tie.Need-same-length
 same-length c = search needs
@@ -30,17 +32,27 @@ same-length-4 c = search needs
 
 returns : tie.Need-returns
 returns c =
-    let s = c .before .before .before .before .before .before .before .before .before .before .before .before .before .before in
-    let r = c .before .before .end-on in
+    let x = c .before .before in
+    let y = x .before .before .before .before .before in
+    let z = y .before in
+    let v = z .before .before .before .before .before in
+    let s = v .before in
+    let r = x .end-on in
     let t : Tables = tables (s .args .accounts .now) (s .args .counters .now) (s .args .pays .now) in (
-      end-closed [] (s .args .s) (r .result) t (s .args .out .now) _ (s .args .buf .now) (sym (c .before .before .before .before .before .before .before .before .is-ending .ensures) ∙ c .before .before .before .before .before .before .before .if1 .taken) (r .ensures .0) (r .ensures .1 .1),
+      end-closed [] (s .args .s) (r .result) t (s .args .out .now) _ (s .args .buf .now) (sym (z .is-ending .ensures) ∙ y .if1 .taken) (r .ensures .0)
+          (r .ensures .1 .1),
       (r .ensures .1 .0, rw (r .ensures .1 .1) (r .ensures .1 .2 (s .args .s .cut .held)), r .ensures .1 .3),
     )
 
 last-on-requires : tie.Need-last-on-requires
 last-on-requires c κs =
-    let s = c .before .before .before .before .before .before .before .before .before .before .before .before in
-    ((s .pre .0, closes-open (length (s .args .out .now)) (s .args .s) (s .pre .3), sym (c .before .before .before .before .before .before .is-ending .ensures) ∙ c .before .before .before .before .before .if1 .left), (s .pre .1, s .pre .2, closes-room (length (s .args .out .now)) (s .args .s) (s .pre .3)))
+    let x = c .before .before .before .before .before in
+    let y = x .before in
+    let z = y .before .before .before .before .before in
+    let s = z .before in (
+      (s .pre .0, closes-open (length (s .args .out .now)) (s .args .s) (s .pre .3), sym (y .is-ending .ensures) ∙ x .if1 .left),
+      (s .pre .1, s .pre .2, closes-room (length (s .args .out .now)) (s .args .s) (s .pre .3)),
+    )
 
 same-length-5 : tie.Need-same-length-5
 same-length-5 c = search needs
@@ -59,11 +71,17 @@ same-length-9 c = search needs
 
 returns-2 : tie.Need-returns-2
 returns-2 c =
-    let s = c .before .before .before .before .before .before .before .before .before .before .before .before .before .before .before .before .before .before .before .before .before .before in
-    let r = c .before .before .before .before .before .before .before .before .before .last-on in
+    let x = c .before .before .before .before .before in
+    let y = x .before .before .before .before in
+    let z = y .before .before .before .before .before in
+    let v = z .before .before in
+    let w = v .before .before .before .before .before in
+    let s = w .before in
+    let r = y .last-on in
     let t : Tables = tables (s .args .accounts .now) (s .args .counters .now) (s .args .pays .now) in
     let u : Tables = tables (r .last .1 .1 .0) (r .last .1 .1 .1 .0) (r .last .1 .1 .1 .1 .0) in (
-      last-closed [] (s .args .s) (r .result) t u (s .args .out .now) _ (s .args .buf .now) (sym (c .before .before .before .before .before .before .before .before .before .before .before .before .before .before .before .before .is-ending .ensures) ∙ c .before .before .before .before .before .before .before .before .before .before .before .before .before .before .before .if1 .left) (r .ensures .0) (r .ensures .1 .1),
+      last-closed [] (s .args .s) (r .result) t u (s .args .out .now) _ (s .args .buf .now) (sym (v .is-ending .ensures) ∙ z .before .if1 .left)
+          (r .ensures .0) (r .ensures .1 .1),
       (r .ensures .1 .0, rw (r .ensures .1 .1) (r .ensures .1 .2), r .ensures .1 .3),
     )
 

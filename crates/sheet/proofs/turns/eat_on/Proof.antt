@@ -1,25 +1,68 @@
--- `sheet::turns::eat_on` meets its contract: no loop.
-use Rattle.sheet.proofs.Desks.{eat-done, eat-open, eat-more}
-use Rattle.sheet.proofs.Writing.{grown-none}
-use Rattle.sheet.specs.Feeding.{nightOf}
+-- `sheet::turns::eat_on` meets its contract: no loop; a line that stands in the chunk as a whole is read there.
+use borrow.Author.Needs.{needs}
+use mathlib.Core.Path.{ap, _∙_}
+use Prim.Native.Nat.{_+_, _-_}
+use native.Mathlib.Omega.{arith}
+use lib.ListN.{drop, length-drop}
+use lib.Seq.{length-take-le}
+use Rattle.cut.specs.declared.Cut.{Cut}
+use Rattle.cut.specs.Chunks.{stateOf, WholeAt}
 use Rattle.tables.specs.Layout.{Tables, tables}
 use Rattle.sheet.specs.Sheet.{Night}
-use Rattle.cut.specs.Chunks.{Held, stateOf}
-use Rattle.cut.specs.declared.Cut.{Cut}
-use lib.ListN.{drop}
-use mathlib.Core.Path.{sym, ap, _∙_}
-use borrow.Author.Needs.{needs}
-use native.Mathlib.Omega.{arith}
+use Rattle.sheet.specs.Feeding.{nightOf}
+use Rattle.sheet.proofs.Desks.{whole-done}
 use Rattle.sheet.proofs.turns.eat_on.Statement.{statement}
 use Rattle.sheet.proofs.turns.eat_on.Tie as tie
 
-eat-requires : tie.Need-eat-requires
-eat-requires c κs = search needs
+-- from where a line was found back to the start
+abbrev begun : tie.Then1 → tie.Start
+begun c = let w = c .before .before .before .before in w .before .before .before .before
+
+-- the line stands there as a whole
+there : (c : tie.Then1) → WholeAt (begun c .args .chunk .now) (begun c .args .from) (begun c .args .s .cut) (c .before .whole .result)
+there c = c .before .whole .ensures (c .if1 .taken)
+
+whole-requires : tie.Need-whole-requires
+whole-requires c κs = search needs
+
+sub-held : tie.Need-sub-held
+sub-held c = there c .start
+
+held-requires : tie.Need-held-requires
+held-requires c κs = search needs
+
+sub-line-on : tie.Need-sub-line-on
+sub-line-on c = there (c .before) .start
+
+part-line-on-start : tie.Need-part-line-on-start
+part-line-on-start c = there (c .before) .start
+
+part-line-on-end : tie.Need-part-line-on-end
+part-line-on-end c = search needs
 
 line-on-requires : tie.Need-line-on-requires
 line-on-requires c κs =
-    let s = c .before .before .before .before .before .before .before .before .before .before .before .before .before .before .before .before .before .before in
-    ((record { few = s .pre .0 .0 .few; room = s .pre .0 .0 .room; held = c .before .before .before .before .before .before .before .before .before .before .eat .ensures .1 .1; stands = s .pre .0 .0 .stands }, s .pre .0 .1), (s .pre .1 .0, omega arith, s .pre .1 .3))
+    let k = c .before .before .before in
+    let h = k .before .before .before in
+    let t = h .before in
+    let s = begun t in
+    let n = t .before .whole .result - s .args .from in
+    let q = ap (λ (x : Cut). x .held) (h .held .ensures) in
+    let l = length-take-le n (drop (s .args .from) (s .args .chunk .now)) (omega (arith, length-drop (s .args .from) (s .args .chunk .now), t .if1 .taken)) in
+    let f = s .pre .0 .0 in (
+      (record { few = f .few; room = f .room; held = omega (arith, q, there t .short); stands = f .stands }, s .pre .0 .1),
+      (s .pre .1 .0, omega (arith, q, l), s .pre .1 .3),
+    )
+
+add-t17 : tie.Need-add-t17
+add-t17 c =
+    let x = c .before .before .before .before in
+    let y = x .before .before .before .before .before in
+    let z = y .before .before .before .before in
+    let t = z .before .before .before .before in
+    let s = begun t in
+    let i = t .if1 .taken in
+    search needs
 
 same-length : tie.Need-same-length
 same-length c = search needs
@@ -36,48 +79,71 @@ same-length-4 c = search needs
 same-length-5 : tie.Need-same-length-5
 same-length-5 c = search needs
 
-same-length-6 : tie.Need-same-length-6
-same-length-6 c = search needs
-
 returns : tie.Need-returns
 returns c =
-    let s = c .before .before .before .before .before .before .before .before .before .before .before .before .before .before .before .before .before .before .before .before .before .before .before .before .before .before .before .before in
-    let a = c .before .before .before .before .before .before .before .before .before .before .before .before .before .before .before .before .before .before .before .before .eat in
-    let d = c .before .before .before .before .before .before .before .before .before .line-on in
-    let t : Tables = tables (s .args .accounts .now) (s .args .counters .now) (s .args .pays .now) in
-    let u : Tables = tables (d .last .1 .1 .0) (d .last .1 .1 .1 .0) (d .last .1 .1 .1 .1 .0) in
-    let n : Night = nightOf (d .result) u (d .last .1 .1 .1 .1 .1 .0) in
-    let h : Held = stateOf (s .args .buf .now) (s .args .s .cut) in (
-      ap (λ (k : Cut). record { rest = drop (a .result .at) (s .args .chunk .now); night = n; held = stateOf (a .last .1 .1 .0) k }) (d .ensures .1 .1)
-          ∙ eat-done (s .args .chunk .now) (s .args .from) (nightOf (s .args .s) t (s .args .out .now)) h (a .result .at) (stateOf (a .last .1 .1 .0) (a .result .cut)) n (sym (c .before .before .before .before .before .before .before .before .before .before .before .before .before .before .before .before .if1 .taken) ∙ a .ensures .0 .done) (a .ensures .0 .place) (a .ensures .0 .held) (d .ensures .0),
-      (d .ensures .1 .0, eat-more (s .args .chunk .now) (s .args .from) h (a .result .at) (a .ensures .0 .place) (s .pre .1 .2), a .ensures .1 .0, d .ensures .1 .2),
+    let x = c .before .before .before .before in
+    let y = x .before .before .before .before .before in
+    let z = y .before .before .before .before in
+    let h = z .before .before .before in
+    let t = h .before in
+    let a = begun t .args in
+    let d = y .line-on in
+    let o = d .last .1 .1 in
+    let u : Tables = tables (o .0) (o .1 .0) (o .1 .1 .0) in
+    let n : Night = nightOf (d .result) u (o .1 .1 .1 .0) in (
+      ap (λ (k : Cut). record { rest = drop (t .before .whole .result + 1) (a .chunk .now); night = n; held = stateOf (a .buf .now) k }) (d .ensures .1 .1)
+          ∙ whole-done (a .chunk .now) (a .buf .now) (a .from) (nightOf (a .s) (tables (a .accounts .now) (a .counters .now) (a .pays .now)) (a .out .now))
+          (there t) (t .if1 .taken) (h .held .ensures) (d .ensures .0),
+      (d .ensures .1 .0, omega (arith, there t .start), omega (arith, t .if1 .taken), d .ensures .1 .2),
     )
+
+part-on-requires : tie.Need-part-on-requires
+part-on-requires c κs = search needs
+
+same-length-6 : tie.Need-same-length-6
+same-length-6 c = search needs
 
 same-length-7 : tie.Need-same-length-7
 same-length-7 c = search needs
 
+same-length-8 : tie.Need-same-length-8
+same-length-8 c = search needs
+
+same-length-9 : tie.Need-same-length-9
+same-length-9 c = search needs
+
+same-length-10 : tie.Need-same-length-10
+same-length-10 c = search needs
+
+same-length-11 : tie.Need-same-length-11
+same-length-11 c = search needs
+
 returns-2 : tie.Need-returns-2
-returns-2 c =
-    let s = c .before .before .before .before .before .before .before .before .before .before .before .before in
-    let a = c .before .before .before .before .eat in
-    let t : Tables = tables (s .args .accounts .now) (s .args .counters .now) (s .args .pays .now) in
-    let h : Held = stateOf (s .args .buf .now) (s .args .s .cut) in (
-      eat-open (s .args .chunk .now) (s .args .from) (nightOf (s .args .s) t (s .args .out .now)) h (a .result .at) (stateOf (a .last .1 .1 .0) (a .result .cut)) (sym (c .if1 .left) ∙ a .ensures .0 .done) (a .ensures .0 .place) (a .ensures .0 .held),
-      (record { few = s .pre .0 .0 .few; room = s .pre .0 .0 .room; held = a .ensures .1 .1; stands = s .pre .0 .0 .stands }, eat-more (s .args .chunk .now) (s .args .from) h (a .result .at) (a .ensures .0 .place) (s .pre .1 .2), a .ensures .1 .0, grown-none (s .args .s .used) (s .args .out .now)),
-    )
+returns-2 c = search needs
 
 pub eat-on-spec : {M : Type 1} → statement M
 eat-on-spec =
     tie.close
     (tie.spec
-    eat-requires
+    whole-requires
+    sub-held
+    held-requires
+    sub-line-on
+    part-line-on-start
+    part-line-on-end
     line-on-requires
+    add-t17
     same-length
     same-length-2
     same-length-3
     same-length-4
     same-length-5
-    same-length-6
     returns
+    part-on-requires
+    same-length-6
     same-length-7
+    same-length-8
+    same-length-9
+    same-length-10
+    same-length-11
     returns-2)

@@ -21,10 +21,23 @@ is-over-requires : tie.Need-is-over-requires
 is-over-requires c κs = search needs
 
 returns-3 : tie.Need-returns-3
-returns-3 c = rw (flag-yes (c .before .before .before .before .before .has-room .ensures) (c .before .before .before .before .if1 .left), sym (c .before .before .before .is-ending .ensures) ∙ c .before .before .if2 .left, sym (c .before .is-over .ensures) ∙ c .if3 .taken)
+returns-3 c =
+    rw (
+      flag-yes (c .before .before .before .before .before .has-room .ensures) (c .before .before .before .before .if1 .left),
+      sym
+          (c .before .before .before .is-ending .ensures) ∙ c .before .before .if2 .left,
+      sym (c .before .is-over .ensures) ∙ c .if3 .taken,
+    )
 
 returns-4 : tie.Need-returns-4
-returns-4 c = rw (flag-yes (c .before .before .before .before .before .before .has-room .ensures) (c .before .before .before .before .before .if1 .left), sym (c .before .before .before .before .is-ending .ensures) ∙ c .before .before .before .if2 .left, sym (c .before .before .is-over .ensures) ∙ c .before .if3 .left)
+returns-4 c =
+    let x = c .before .before .before .before .before in
+    rw (
+      flag-yes (x .before .has-room .ensures) (x .if1 .left),
+      sym (c .before .before .before .before .is-ending .ensures)
+          ∙ c .before .before .before .if2 .left,
+      sym (c .before .before .is-over .ensures) ∙ c .before .if3 .left,
+    )
 
 pub goes-on-spec : {M : Type 1} → statement M
 goes-on-spec =
