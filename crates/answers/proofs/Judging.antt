@@ -33,7 +33,9 @@ first-bad (t ∷ ts) r e = go (t .when) (t .code) e (first-bad ts r)
   where
     go : (b : Bool) (k : Refusal) → cond b (Bad k) (first ts) ≡ Bad r → (first ts ≡ Bad r → Given ts r) → Given (test b k ∷ ts) r
     go true k e ih = let q : k ≡ r = cc in record { earlier = []; later = ts; parts = rw q; none = tt }
-    go false k e ih = let g = ih e in record { earlier = test false k ∷ g .earlier; later = g .later; parts = ap (λ l. test false k ∷ l) (g .parts); none = (refl, g .none) }
+    go false k e ih =
+        let g = ih e in
+        record { earlier = test false k ∷ g .earlier; later = g .later; parts = ap (λ l. test false k ∷ l) (g .parts); none = (refl, g .none) }
 
 -- and the other way
 pub bad-first : {ts : List Test} {r : Refusal} → Given ts r → first ts ≡ Bad r

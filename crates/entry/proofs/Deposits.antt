@@ -41,7 +41,10 @@ module _ {T : Tables} {m x : ℕ} (h : Holds T) (d : Deposits T m x) where
   pub deposits-balance : (i : ℕ) → balanceOf (depositedIn T m x .accounts) i ≡ balanceOf (T .accounts) i +ℤ pos (onlyFor (m - 1) x i)
   unfolding depositedIn
   deposits-balance i = elim (ℕ-discrete (m - 1) i) [
-    | yes e ↦ rw (eqb-same e) (ap (balanceOf (depositedIn T m x .accounts)) (sym e) ∙ getD-set-same (T .accounts) (m - 1) (balanceOf (T .accounts) (m - 1) +ℤ pos x) (pos 0) (omega (arith, seat, h .counters .few, h .accounts .long)) ∙ ap (λ j. balanceOf (T .accounts) j +ℤ pos x) e)
+    | yes e ↦
+        let b = balanceOf (T .accounts) (m - 1) +ℤ pos x in
+        let g = getD-set-same (T .accounts) (m - 1) b (pos 0) (omega (arith, seat, h .counters .few, h .accounts .long)) in
+        rw (eqb-same e) (ap (balanceOf (depositedIn T m x .accounts)) (sym e) ∙ g ∙ ap (λ j. balanceOf (T .accounts) j +ℤ pos x) e)
     | no e ↦ rw (eqb-other e) (other i (λ q. e (sym q)) ∙ sym (plus-zero (balanceOf (T .accounts) i)))
   ]
 

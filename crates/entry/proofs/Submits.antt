@@ -8,7 +8,6 @@ use native.Mathlib.Decide.{ℕ-discrete, decLt}
 use native.Mathlib.Numerals.{add-one}
 use native.Mathlib.Omega.{arith}
 use lib.Dec.{eqb}
-use lib.IntN.{ℤ}
 use lib.ListN.{length, getD, set, length-set, length-append}
 use lib.Seq.{getD-set-same, getD-set-other, take-suc-set}
 use Rattle.rule.specs.Payment.{payerOf, word}
@@ -94,7 +93,10 @@ module _ {T : Tables} {m n q x : ℕ} (h : Holds T) (s : Submits T m n q x) wher
   pub submits-last : (i : ℕ) → lastOf (submittedIn T m n q x .counters) i ≡ lastOf (T .counters) i + onlyFor (m - 1) 1 i
   unfolding submittedIn
   submits-last i = elim (ℕ-discrete (m - 1) i) [
-    | yes e ↦ rw (eqb-same e) (ap (lastOf (submittedIn T m n q x .counters)) (sym e) ∙ getD-set-same (set (T .counters) waitingAt (waitingIn T + 1)) (lastsAt + (m - 1)) n 0 (simp length-set (omega (arith, h .counters .broad, payer))) ∙ s .next ∙ ap (λ j. lastOf (T .counters) j + 1) e)
+    | yes e ↦
+        let l = set (T .counters) waitingAt (waitingIn T + 1) in
+        let g = getD-set-same l (lastsAt + (m - 1)) n 0 (simp length-set (omega (arith, h .counters .broad, payer))) in
+        rw (eqb-same e) (ap (lastOf (submittedIn T m n q x .counters)) (sym e) ∙ g ∙ s .next ∙ ap (λ j. lastOf (T .counters) j + 1) e)
     | no e ↦ rw (eqb-other e) (cell (lastsAt + i) (λ g. omega arith) (λ g. e (omega arith)) ∙ omega arith)
   ]
 
@@ -126,7 +128,8 @@ module _ {T : Tables} {m n q x : ℕ} (h : Holds T) (s : Submits T m n q x) wher
         rw (e, getD-set-same (T .pays) (waitingIn T) (word (m - 1) (q - 1) x) 0 (omega (arith, s .room, h .places .deep))) submits-payment
   ]
 
-  submits-numbers : (i : ℕ) → i < members → settledOf (submittedIn T m n q x .counters) i + length (queueOf i (wordsIn (submittedIn T m n q x))) ≡ lastOf (submittedIn T m n q x .counters) i
+  submits-numbers : (i : ℕ) → i < members
+      → settledOf (submittedIn T m n q x .counters) i + length (queueOf i (wordsIn (submittedIn T m n q x))) ≡ lastOf (submittedIn T m n q x .counters) i
   unfolding submittedIn
   submits-numbers i l =
       rw (submits-settled i, submits-queue i, length-append, just-long, payer-is, submits-last i)

@@ -15,7 +15,7 @@ ghost use Rattle.tables.specs.Layout.{tables, waitingOf, countOf, lastsAt, wait
 ghost use Rattle.tables.specs.Holds.{Holds};
 ghost use Rattle.answers.specs.Codes.{first};
 ghost use Rattle.answers.specs.Outcome.{outcome, held};
-ghost use Rattle.entry.specs.Submit.{isNext, submitTests, submitAct, countersSubmitted};
+ghost use Rattle.entry.specs.Submit.{isNext, submitTests, submitAct};
 
 // A payment at the tail of its payer's queue.
 pub fn submit(

@@ -13,7 +13,8 @@ use Rattle.rule.proofs.Ints.{plus-zero}
 use Rattle.rule.proofs.Lists.{fill-at, fill-length}
 use Rattle.rule.proofs.Money.{money-same}
 use Rattle.tables.specs.Sizes.{members, places, table}
-use Rattle.tables.specs.Layout.{Tables, membersIn, waitingIn, wordsIn, lastOf, balanceOf, lineOf, moneyOf, lastsAt, linesAt, settledAt, spareAccountsAt, spareCountersAt, spareSinglesAt, waitingAt}
+use Rattle.tables.specs.Layout.{Tables, membersIn, waitingIn, wordsIn, lastOf, balanceOf, lineOf, moneyOf}
+use Rattle.tables.specs.Layout.{linesAt, spareAccountsAt, waitingAt, spareSinglesAt, lastsAt, settledAt, spareCountersAt}
 use Rattle.tables.specs.Holds.{Holds}
 use Rattle.tables.proofs.States.{holder-is}
 use Rattle.opening.specs.Open.{entry, accountOpened, counterOpened, openedIn}
@@ -98,7 +99,9 @@ module _ {T : Tables} {n : ℕ} {b l : List ℤ} (o : Opens T n b l) where
   -- so that the sum of all is that of the balances given,
   pub opens-money : moneyOf (openedIn T n b l .accounts) ≡ money n (entry b)
   unfolding openedIn
-  opens-money = money-trim (balanceOf (openedIn T n b l .accounts)) members n few no-balance ∙ money-same n (entry b) (balanceOf (openedIn T n b l .accounts)) opens-balance
+  opens-money =
+      let a = openedIn T n b l .accounts in
+      money-trim (balanceOf a) members n few no-balance ∙ money-same n (entry b) (balanceOf a) opens-balance
 
   -- and the tables hold a state
   pub opens-hold : Holds (openedIn T n b l)

@@ -55,7 +55,11 @@ near-account false b l e = near-zero b (and-both (isZero b) (isZero l) e .0)
 
 -- where each account is in order, no balance is further from zero than the highest
 pub seats-bounded : (n : ℕ) (a : List ℤ) → table ≤ length a → every (accountAt n a) members ≡ true → Bounded members a
-seats-bounded n a h e = record { few = omega arith; long = omega arith; near = λ i q. near-account (ltb i n) (balanceOf a i) (lineOf a i) (every-at (accountAt n a) members i e q) }
+seats-bounded n a h e = record {
+  few = omega arith;
+  long = omega arith;
+  near = λ i q. near-account (ltb i n) (balanceOf a i) (lineOf a i) (every-at (accountAt n a) members i e q);
+}
 
 -- ---- and so are their sums
 

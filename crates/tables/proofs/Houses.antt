@@ -6,7 +6,7 @@ use Prim.Native.Nat.{ℕ, zero, suc, _-_, _≤_, _<_}
 use native.Mathlib.Decide.{decLt}
 use native.Mathlib.Omega.{arith}
 use lib.Dec.{eqb}
-use lib.IntN.{ℤ, pos}
+use lib.IntN.{pos}
 use lib.ListN.{length, getD}
 use lib.Seq.{length-take-le, getD-take}
 use borrow.Author.Tests.{eqb-true, ne-eqb}
@@ -33,7 +33,8 @@ queue-each P i [] f = λ k h. absurd (omega arith)
 queue-each P i (w ∷ ws) f = go (eqb (payerOf w) i) refl (queue-each P i ws (λ k h. f (suc k) (omega arith)))
   where
     go : (b : Bool) → eqb (payerOf w) i ≡ b → ((k : ℕ) → k < length (queueOf i ws) → P (getD (queueOf i ws) k 0) × (payerOf (getD (queueOf i ws) k 0) ≡ i))
-        → (k : ℕ) → k < length (cond b (w ∷ queueOf i ws) (queueOf i ws)) → P (getD (cond b (w ∷ queueOf i ws) (queueOf i ws)) k 0) × (payerOf (getD (cond b (w ∷ queueOf i ws) (queueOf i ws)) k 0) ≡ i)
+        → (k : ℕ) → k < length (cond b (w ∷ queueOf i ws) (queueOf i ws))
+        → P (getD (cond b (w ∷ queueOf i ws) (queueOf i ws)) k 0) × (payerOf (getD (cond b (w ∷ queueOf i ws) (queueOf i ws)) k 0) ≡ i)
     go true e ih zero h = (f 0 (omega arith), eqb-true (payerOf w) i e)
     go true e ih (suc k) h = ih k (omega arith)
     go false e ih k h = ih k h

@@ -15,7 +15,8 @@ use Rattle.rule.proofs.Ints.{true-leZ}
 use Rattle.rule.specs.Payment.{payerOf, payeeOf, amountOf, flagsOf}
 use Rattle.rule.specs.Table.{queueOf}
 use Rattle.tables.specs.Sizes.{members, places, table, most, highest, mostAmount, mostLine}
-use Rattle.tables.specs.Layout.{Tables, membersIn, waitingIn, countOf, waitingOf, lastOf, settledOf, balanceOf, lineOf, moneyOf, wordsOf, spareAccounts, spareAccountsAt, spareCounters, spareCountersAt, spareSingles, spareSinglesAt}
+use Rattle.tables.specs.Layout.{Tables, membersIn, waitingIn, countOf, waitingOf, lastOf, settledOf, balanceOf, lineOf, moneyOf, wordsOf}
+use Rattle.tables.specs.Layout.{spareAccounts, spareAccountsAt, spareCounters, spareCountersAt, spareSingles, spareSinglesAt}
 use Rattle.tables.specs.Holds.{Holder, Payment, Counters, Accounts, Places, Numbers, Holds}
 use Rattle.tables.specs.State.{every, isZero, holderOk, accountAt, spareAt, accountsOk, zeroAt, countersOk, wordOk, placeAt, placesOk, queueAt, queuesOk, sized, isState}
 use Rattle.tables.proofs.Tests.{and-both, and-of, le-true, true-le, zero-true, true-zero}
@@ -145,7 +146,9 @@ module _ {n : ℕ} {a : List ℤ} (h : Accounts n a) where
 
   accounts-of : accountsOk n a ≡ true
   unfolding accountsOk
-  accounts-of = and-of (every-of (accountAt n a) members account) (and-of (every-of (spareAt a) spareAccounts (λ k q. true-zero (h .spare k q))) (true-le (moneyOf a) (pos most) (h .sum)))
+  accounts-of =
+      let s = every-of (spareAt a) spareAccounts (λ k q. true-zero (h .spare k q)) in
+      and-of (every-of (accountAt n a) members account) (and-of s (true-le (moneyOf a) (pos most) (h .sum)))
 
 places-of : {n w : ℕ} {p : List ℕ} → Places n w p → placesOk n w p ≡ true
 unfolding placesOk
@@ -175,5 +178,7 @@ counters-of {c} h = rw (
 pub holds-state : {T : Tables} → Holds T → isState T ≡ true
 unfolding isState
 holds-state {T} h =
-    and-of (and-of (le-leb table (length (T .accounts)) (h .accounts .long)) (and-of (le-leb table (length (T .counters)) (h .counters .broad)) (le-leb places (length (T .pays)) (h .places .deep))))
+    let a = le-leb table (length (T .accounts)) (h .accounts .long) in
+    let c = le-leb table (length (T .counters)) (h .counters .broad) in
+    and-of (and-of a (and-of c (le-leb places (length (T .pays)) (h .places .deep))))
     (and-of (counters-of (h .counters)) (and-of (accounts-of (h .accounts)) (and-of (places-of (h .places)) (numbers-of (h .numbers)))))

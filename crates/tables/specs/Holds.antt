@@ -9,7 +9,8 @@ use lib.ListN.{length, getD}
 use Rattle.rule.specs.Payment.{payerOf, payeeOf, amountOf, flagsOf}
 use Rattle.rule.specs.Table.{queueOf}
 use Rattle.tables.specs.Sizes.{most, members, mostAmount, mostLine, places, table}
-use Rattle.tables.specs.Layout.{Tables, membersIn, waitingIn, countOf, waitingOf, lastOf, settledOf, balanceOf, lineOf, moneyOf, wordsOf, spareAccounts, spareAccountsAt, spareCounters, spareCountersAt, spareSingles, spareSinglesAt}
+use Rattle.tables.specs.Layout.{Tables, membersIn, waitingIn, countOf, waitingOf, lastOf, settledOf, balanceOf, lineOf, moneyOf, wordsOf}
+use Rattle.tables.specs.Layout.{spareAccounts, spareAccountsAt, spareCounters, spareCountersAt, spareSingles, spareSinglesAt}
 
 -- a member's balance b and line l: the line is 0 to 10^12, and balance + line >= 0
 pub record Holder (b l : ℤ) : Type 0 where

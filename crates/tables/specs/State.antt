@@ -9,7 +9,8 @@ use lib.ListN.{length, getD}
 use Rattle.rule.specs.Payment.{payerOf, payeeOf, amountOf, flagsOf}
 use Rattle.rule.specs.Table.{queueOf}
 use Rattle.tables.specs.Sizes.{members, places, table, most, highest, mostAmount, mostLine}
-use Rattle.tables.specs.Layout.{Tables, membersIn, waitingIn, countOf, waitingOf, lastOf, settledOf, balanceOf, lineOf, moneyOf, wordsOf, spareAccounts, spareAccountsAt, spareCounters, spareCountersAt, spareSingles, spareSinglesAt}
+use Rattle.tables.specs.Layout.{Tables, membersIn, waitingIn, countOf, waitingOf, lastOf, settledOf, balanceOf, lineOf, moneyOf, wordsOf}
+use Rattle.tables.specs.Layout.{spareAccounts, spareAccountsAt, spareCounters, spareCountersAt, spareSingles, spareSinglesAt}
 
 -- f holds of each number below n
 unfoldable pub every : (ℕ → Bool) → ℕ → Bool

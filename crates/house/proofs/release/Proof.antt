@@ -37,7 +37,10 @@ same-length-6 : tie.Need-same-length-6
 same-length-6 c = search needs
 
 returns-2 : tie.Need-returns-2
-returns-2 c = c .before .before .before .before .before .release .ensures ∙ sym (called-held _ _ (flag-yes (c .before .before .before .before .before .before .before .before .before .before .is-state .ensures) (c .before .before .before .before .before .before .before .before .before .if1 .left)))
+returns-2 c =
+    let called = c .before .before .before .before .before in
+    let state = called .before .before .before .before in
+    called .release .ensures ∙ sym (called-held _ _ (flag-yes (state .before .is-state .ensures) (state .if1 .left)))
 
 pub release-spec : {M : Type 1} → statement M
 release-spec =

@@ -22,7 +22,9 @@ div-result : tie.Need-div-result
 div-result c = search needs
 
 returns-3 : tie.Need-returns-3
-returns-3 c = (sym (entries-all (c .before .before .args .width) (c .before .before .args .bytes) (omega arith) (omega arith)), entries-within (c .before .before .args .width) (c .before .before .args .bytes), omega arith)
+returns-3 c =
+    let s = c .before .before in
+    (sym (entries-all (s .args .width) (s .args .bytes) (omega arith) (omega arith)), entries-within (s .args .width) (s .args .bytes), omega arith)
 
 pub entries-of-spec : {M : Type 1} → statement M
 entries-of-spec = tie.close (tie.spec rem-if1 returns div-if2 returns-2 div-result returns-3)

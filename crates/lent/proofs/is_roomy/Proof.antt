@@ -1,7 +1,6 @@
 -- `lent::is_roomy` meets its contract: no loop; both lengths are tested.
 use native.Mathlib.Omega.{arith}
 use borrow.Author.Tests.{lt-leb, le-leb}
-use borrow.Author.Needs.{needs}
 use Rattle.tables.specs.Sizes.{bytes}
 use Rattle.lent.proofs.is_roomy.Statement.{statement}
 use Rattle.lent.proofs.is_roomy.Tie as tie

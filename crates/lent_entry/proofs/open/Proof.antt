@@ -1,7 +1,9 @@
 -- `lent_entry::open` meets its contract: no loop; what the house did to the lists is put back where it accepts.
-use mathlib.Core.Path.{refl}
+use mathlib.Core.Path.{_≡_, refl}
 use mathlib.Core.List.{[]}
+use Rattle.tables.specs.Layout.{tables}
 use Rattle.tables.proofs.Same.{tables-same}
+use Rattle.lent.specs.Bytes.{tablesIn}
 use Rattle.lent.specs.Reply.{lends}
 use Rattle.answers.specs.Outcome.{held}
 use Rattle.opening.specs.Open.{openAct}
@@ -10,6 +12,14 @@ use Rattle.lent.proofs.Runs.{accepted, refused, put-none, put-signed}
 use borrow.Author.Needs.{needs}
 use Rattle.lent_entry.proofs.open.Statement.{statement}
 use Rattle.lent_entry.proofs.open.Tie as tie
+
+abbrev start : tie.After-accounts-of → tie.Start
+start c = c .before .before .before .before
+
+-- the lists that were read are those in the bytes
+read : (c : tie.After-pays-of) → let a = c .before .before .before .before in
+    tables (a .accounts-of .result) (c .before .before .counters-of .result) (c .pays-of .result) ≡ tablesIn (start a .args .s .now)
+read c = tables-same (c .before .before .before .before .accounts-of .ensures .0) (c .before .before .counters-of .ensures .0) (c .pays-of .ensures .0)
 
 accounts-of-requires : tie.Need-accounts-of-requires
 accounts-of-requires c κs = search needs
@@ -64,28 +74,31 @@ same-length-2 c = search needs
 
 returns : tie.Need-returns
 returns c =
-    let s = c .before .before .before .before .before .before .before .before .before .before .before .before .before .before .before .before .before .before .before .before .before .before .before .before .before .before .before .before .before in
+    let told = c .before in
+    let stored = told .before .before .before .before .before in
+    let kept = stored .before in
+    let fits = kept .before .before .before .before in
+    let found = fits .before in
+    let answered = found .before .before .before .before .before in
+    let read-out = answered .before .before .before .before in
+    let s = start (read-out .before .before .before .before) in
     accepted toldOpened (held (openAct (s .args .count) (s .args .b .now) (s .args .l .now))) (lends (s .args .s .now) [] (s .args .answer .now))
-    (tables-same (c .before .before .before .before .before .before .before .before .before .before .before .before .before .before .before .before .before .before .before .before .before .before .before .before .before .accounts-of .ensures .0) (c .before .before .before .before .before .before .before .before .before .before .before .before .before .before .before .before .before .before .before .before .before .before .before .counters-of .ensures .0) (c .before .before .before .before .before .before .before .before .before .before .before .before .before .before .before .before .before .before .before .before .before .pays-of .ensures .0))
-    (c .before .before .before .before .before .before .before .before .before .before .before .before .before .before .before .before .before .«open» .ensures)
-    (c .before .before .before .before .before .before .before .before .before .before .before .before .r .given .1)
-    refl
-    (c .before .before .before .before .before .before .store .ensures)
+    (read read-out) (answered .«open» .ensures) (found .r .given .1) refl
+    (stored .store .ensures)
     (put-none 2 [])
-    (put-signed _ {z = c .before .before .before .before .before .before .before .before .before .before .before .before .r .given .0 .0} (record { sfits = c .before .before .before .before .before .before .before .before .before .before .before .known-told .given .0 .1 }) (c .before .before .write-i64 .ensures))
+    (put-signed _ {z = found .r .given .0 .0} (record { sfits = fits .known-told .given .0 .1 }) (c .before .before .write-i64 .ensures))
 
 same-length-3 : tie.Need-same-length-3
 same-length-3 c = search needs
 
 returns-2 : tie.Need-returns-2
 returns-2 c =
-    let s = c .before .before .before .before .before .before .before .before .before .before .before .before .before .before .before .before .before .before .before in
+    let found = c .before .before in
+    let answered = found .before .before .before .before .before in
+    let read-out = answered .before .before .before .before in
+    let s = start (read-out .before .before .before .before) in
     refused toldOpened (held (openAct (s .args .count) (s .args .b .now) (s .args .l .now))) (lends (s .args .s .now) [] (s .args .answer .now))
-    (tables-same (c .before .before .before .before .before .before .before .before .before .before .before .before .before .before .before .accounts-of .ensures .0) (c .before .before .before .before .before .before .before .before .before .before .before .before .before .counters-of .ensures .0) (c .before .before .before .before .before .before .before .before .before .before .before .pays-of .ensures .0))
-    (c .before .before .before .before .before .before .before .«open» .ensures)
-    (c .before .before .r2 .given .1)
-    refl
-    (c .code .ensures)
+    (read read-out) (answered .«open» .ensures) (found .r2 .given .1) refl (c .code .ensures)
 
 pub open-spec : {M : Type 1} → statement M
 open-spec =

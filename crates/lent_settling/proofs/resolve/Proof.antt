@@ -1,7 +1,9 @@
 -- `lent_settling::resolve` meets its contract: no loop; what the house did to the lists is put back where it accepts.
-use mathlib.Core.Path.{refl}
+use mathlib.Core.Path.{_≡_, refl}
 use native.Mathlib.Omega.{arith}
+use Rattle.tables.specs.Layout.{tables}
 use Rattle.tables.proofs.Same.{tables-same}
+use Rattle.lent.specs.Bytes.{tablesIn}
 use Rattle.lent.specs.Reply.{lends}
 use Rattle.answers.specs.Outcome.{called}
 use Rattle.resolving.specs.Resolve.{resolveAct}
@@ -10,6 +12,14 @@ use Rattle.lent.proofs.Runs.{accepted, refused, with-list}
 use borrow.Author.Needs.{needs}
 use Rattle.lent_settling.proofs.resolve.Statement.{statement}
 use Rattle.lent_settling.proofs.resolve.Tie as tie
+
+abbrev start : tie.After-accounts-of → tie.Start
+start c = let a = c .before .before .before in a .before .before .before
+
+-- the lists that were read are those in the bytes
+read : (c : tie.After-pays-of) → let a = c .before .before .before .before in
+    tables (a .accounts-of .result) (c .before .before .counters-of .result) (c .pays-of .result) ≡ tablesIn (start a .args .s .now)
+read c = tables-same (c .before .before .before .before .accounts-of .ensures .0) (c .before .before .counters-of .ensures .0) (c .pays-of .ensures .0)
 
 accounts-of-requires : tie.Need-accounts-of-requires
 accounts-of-requires c κs = search needs
@@ -48,10 +58,25 @@ store-requires : tie.Need-store-requires
 store-requires c κs = search needs
 
 encode-u16-requires : tie.Need-encode-u16-requires
-encode-u16-requires c κs = omega (arith, c .before .before .before .before .before .before .before .before .before .before .before .before .before .before .before .before .before .before .before .before .before .before .before .before .before .before .before .before .before .before .before .before .pre .1, c .before .before .before .before .before .before .before .before .before .before .before .before .before .before .before .before .before .resolve .kept)
+encode-u16-requires c κs =
+    let after-store = c .before .before .before .before in
+    let after-a3 = after-store .before .before .before .before in
+    let after-k = after-a3 .before .before .before .before .before in
+    let after-resolve = after-k .before .before .before .before in
+    let after-pays-of = after-resolve .before .before .before .before .before in
+    let after-accounts-of-arg = after-pays-of .before .before .before .before .before in
+    omega (arith, after-accounts-of-arg .before .before .before .before .before .pre .1, after-resolve .resolve .kept)
 
 resolution-requires : tie.Need-resolution-requires
-resolution-requires c κs = c .before .before .before .before .before .before .before .before .before .before .before .before .before .before .before .before .before .before .before .before .before .before .before .before .before .before .before .before .before .before .before .before .before .before .before .before .pre .2
+resolution-requires c κs =
+    let after-encode-u16 = c .before .before .before in
+    let after-store = after-encode-u16 .before .before .before .before .before in
+    let after-a3 = after-store .before .before .before .before in
+    let after-k = after-a3 .before .before .before .before .before in
+    let after-resolve = after-k .before .before .before .before in
+    let after-pays-of = after-resolve .before .before .before .before .before in
+    let after-accounts-of-arg = after-pays-of .before .before .before .before .before in
+    after-accounts-of-arg .before .before .before .before .before .pre .2
 
 enum-known-r-2 : tie.Need-enum-known-r-2
 enum-known-r-2 c = search needs
@@ -73,14 +98,19 @@ same-length-4 c = search needs
 
 returns : tie.Need-returns
 returns c =
-    let s = c .before .before .before .before .before .before .before .before .before .before .before .before .before .before .before .before .before .before .before .before .before .before .before .before .before .before .before .before .before .before .before .before .before .before .before .before .before .before .before in
+    let shown = c .before in
+    let written = shown .before .before .before .before .before in
+    let stored = written .before .before .before .before .before in
+    let kept = stored .before in
+    let found = kept .before .before .before .before .before in
+    let judged = found .before .before in
+    let answered = judged .before .before .before .before .before in
+    let read-out = answered .before .before .before .before .before in
+    let s = start (read-out .before .before .before .before) in
     accepted toldResolved (called (resolveAct (s .args .k .now))) (lends (s .args .s .now) (s .args .counts .now) (s .args .answer .now))
-    (tables-same (c .before .before .before .before .before .before .before .before .before .before .before .before .before .before .before .before .before .before .before .before .before .before .before .before .before .before .before .before .before .before .before .before .before .accounts-of .ensures .0) (c .before .before .before .before .before .before .before .before .before .before .before .before .before .before .before .before .before .before .before .before .before .before .before .before .before .before .before .before .before .before .before .counters-of .ensures .0) (c .before .before .before .before .before .before .before .before .before .before .before .before .before .before .before .before .before .before .before .before .before .before .before .before .before .before .before .before .before .pays-of .ensures .0))
-    (c .before .before .before .before .before .before .before .before .before .before .before .before .before .before .before .before .before .before .before .before .before .before .before .before .resolve .ensures .0)
-    (with-list (c .before .before .before .before .before .before .before .before .before .before .before .before .before .before .before .before .before .r .given .1))
-    refl
-    (c .before .before .before .before .before .before .before .before .before .before .before .store .ensures)
-    (c .before .before .before .before .before .before .encode-u16 .ensures)
+    (read read-out) (answered .resolve .ensures .0) (with-list (found .r .given .1)) refl
+    (stored .store .ensures)
+    (written .encode-u16 .ensures)
     (c .before .before .resolution .ensures)
 
 same-length-5 : tie.Need-same-length-5
@@ -91,13 +121,13 @@ same-length-6 c = search needs
 
 returns-2 : tie.Need-returns-2
 returns-2 c =
-    let s = c .before .before .before .before .before .before .before .before .before .before .before .before .before .before .before .before .before .before .before .before .before .before .before .before in
+    let found = c .before .before in
+    let judged = found .before .before in
+    let answered = judged .before .before .before .before .before in
+    let read-out = answered .before .before .before .before .before in
+    let s = start (read-out .before .before .before .before) in
     refused toldResolved (called (resolveAct (s .args .k .now))) (lends (s .args .s .now) (s .args .counts .now) (s .args .answer .now))
-    (tables-same (c .before .before .before .before .before .before .before .before .before .before .before .before .before .before .before .before .before .before .accounts-of .ensures .0) (c .before .before .before .before .before .before .before .before .before .before .before .before .before .before .before .before .counters-of .ensures .0) (c .before .before .before .before .before .before .before .before .before .before .before .before .before .before .pays-of .ensures .0))
-    (c .before .before .before .before .before .before .before .before .before .resolve .ensures .0)
-    (with-list (c .before .before .r2 .given .1))
-    refl
-    (c .code .ensures)
+    (read read-out) (answered .resolve .ensures .0) (with-list (found .r2 .given .1)) refl (c .code .ensures)
 
 pub resolve-spec : {M : Type 1} → statement M
 resolve-spec =

@@ -31,7 +31,9 @@ shared-slice-copy-out-result-2 c = search needs
 returns-3 : tie.Need-returns-3
 returns-3 c =
     let s = c .before .before .before .before in
-    let g = c .result2 .given in rw (le-ltb (s .args .k) (s .args .n) (omega arith), le-leb linesAt (s .args .k) (omega arith), lt-ltb (s .args .k - linesAt) (s .args .n) (omega arith)) (simp plain)
+    let g = c .result2 .given in
+    let past = le-ltb (s .args .k) (s .args .n) (omega arith) in
+    rw (past, le-leb linesAt (s .args .k) (omega arith), lt-ltb (s .args .k - linesAt) (s .args .n) (omega arith)) (simp plain)
 
 returns-4 : tie.Need-returns-4
 returns-4 c =

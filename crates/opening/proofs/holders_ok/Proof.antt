@@ -17,7 +17,8 @@ Inv-loop balances lines i₀ i = Passed (opensAt balances lines) (length balance
 abbrev μ-loop : tie.MeasureT-loop
 μ-loop balances lines i₀ i = length balances - i
 
-answer : (c : tie.After-holder-ok Inv-loop μ-loop) → c .holder-ok .result ≡ opensAt (c .before .before .before .before .before .args .balances .now) (c .before .before .before .before .before .args .lines .now) (c .before .before .before .before .loop .i)
+answer : (c : tie.After-holder-ok Inv-loop μ-loop) → let s = c .before .before .before .before .before in
+    c .holder-ok .result ≡ opensAt (s .args .balances .now) (s .args .lines .now) (c .before .before .before .before .loop .i)
 answer c = let g = c .before .before .holder-ok-arg .given in let h = c .before .holder-ok-arg2 .given in simp plain at (c .holder-ok .ensures)
 
 loop-holds : tie.Need-loop-holds Inv-loop μ-loop

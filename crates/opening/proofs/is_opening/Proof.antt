@@ -42,7 +42,9 @@ returns-3 c =
 returns-4 : tie.Need-returns-4
 returns-4 c =
     let s = c .before .before .before .before in
-    rw (le-leb 1 (s .args .count) (omega arith), le-leb (s .args .count) members (omega arith), eq-eqb (length (s .args .balances .now)) (s .args .count) (c .before .if3 .left), ne-eqb (length (s .args .lines .now)) (s .args .count) (c .if4 .taken))
+    let b = eq-eqb (length (s .args .balances .now)) (s .args .count) (c .before .if3 .left) in
+    let l = ne-eqb (length (s .args .lines .now)) (s .args .count) (c .if4 .taken) in
+    rw (le-leb 1 (s .args .count) (omega arith), le-leb (s .args .count) members (omega arith), b, l)
 
 holders-ok-requires : tie.Need-holders-ok-requires
 holders-ok-requires c κs = search needs
@@ -52,7 +54,8 @@ returns-5 c = rw (left (c .before .before), flag-no (c .before .holders-ok .ensu
 
 total-requires : tie.Need-total-requires
 total-requires c κs =
-    let s = c .before .before .before .before .before .before in
+    let h = c .before in
+    let s = h .before .before .before .before .before in
     let e = flag-yes (c .before .holders-ok .ensures) (c .if5 .left) in
     record {
       few = omega arith;
@@ -71,9 +74,11 @@ returns-6 c =
     let r = c .before .before .total .ok in
     let q = c .before .signed .ok in
     let g : c .at-most .result ≡ leZ (c .before .before .total .result) (c .before .signed .result) = simp plain at (c .at-most .ensures) in
-    let t : c .before .before .total .result ≡ money (length (c .before .before .before .before .before .before .before .before .before .args .balances .now)) (entry (c .before .before .before .before .before .before .before .before .before .args .balances .now)) = c .before .before .total .ensures in
+    let h = c .before .before .before .before in
+    let s = h .before .before .before .before .before in
+    let t : c .before .before .total .result ≡ money (length (s .args .balances .now)) (entry (s .args .balances .now)) = c .before .before .total .ensures in
     let u : c .before .signed .result ≡ pos most = c .before .signed .ensures in
-    rw (left (c .before .before .before .before .before), flag-yes (c .before .before .before .before .holders-ok .ensures) (c .before .before .before .if5 .left)) (rw (t, u) at g)
+    rw (left (h .before), flag-yes (h .holders-ok .ensures) (c .before .before .before .if5 .left)) (rw (t, u) at g)
 
 pub is-opening-spec : {M : Type 1} → statement M
 is-opening-spec =

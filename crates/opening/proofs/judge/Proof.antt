@@ -21,7 +21,9 @@ returns : tie.Need-returns
 returns c = rw (lt-leb table (length (c .before .before .before .args .accounts .now)) (omega arith))
 
 returns-2 : tie.Need-returns-2
-returns-2 c = rw (le-leb table (length (c .before .before .before .before .args .accounts .now)) (omega arith), lt-leb table (length (c .before .before .before .before .args .counters .now)) (omega arith))
+returns-2 c =
+    let s = c .before .before .before .before in
+    rw (le-leb table (length (s .args .accounts .now)) (omega arith), lt-leb table (length (s .args .counters .now)) (omega arith))
 
 returns-3 : tie.Need-returns-3
 returns-3 c =

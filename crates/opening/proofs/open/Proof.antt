@@ -23,7 +23,7 @@ lent s = tables (s .args .accounts .now) (s .args .counters .now) (s .args .pays
 
 -- where the tables are overwritten, the judgement found nothing,
 abbrev start : tie.After-enum-told → tie.Start
-start c = c .before .before .before .before .before .before .before .before
+start c = let j = c .before .before in let l = j .before .before .before in l .before .before .before
 
 abbrev act : tie.Start → Act Opened
 act s = openAct (s .args .count) (s .args .balances .now) (s .args .lines .now)
@@ -57,9 +57,14 @@ fill-pays-requires c κs = let d = c .before .before .before .before in accepted
 total-requires : tie.Need-total-requires
 total-requires c κs =
     let d = c .before .before .before .before .before in
-    let e = d .before .before .before .before .before .before in
+    let f = d .before .before .before .before in
+    let e = f .before .before in
     let o = accepted e .opening in
-    record { few = omega (arith, o .few); long = omega (arith, o .balances); near = λ i h. near-holder _ (entry (start e .args .lines .now) i) (o .holders i h) }
+    record {
+      few = omega (arith, o .few);
+      long = omega (arith, o .balances);
+      near = λ i h. near-holder _ (entry (start e .args .lines .now) i) (o .holders i h);
+    }
 
 same-length : tie.Need-same-length
 same-length c = search needs

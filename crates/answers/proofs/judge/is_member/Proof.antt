@@ -17,7 +17,10 @@ wide-requires : tie.Need-wide-requires
 wide-requires c κs = search needs
 
 returns-2 : tie.Need-returns-2
-returns-2 c = let u : c .wide .result ≡ countOf (c .before .before .before .before .args .counters .now) = c .wide .ensures in rw (u, le-leb 1 (c .before .before .before .before .args .member) (omega arith))
+returns-2 c =
+    let s = c .before .before .before .before in
+    let u : c .wide .result ≡ countOf (s .args .counters .now) = c .wide .ensures in
+    rw (u, le-leb 1 (s .args .member) (omega arith))
 
 pub is-member-spec : {M : Type 1} → statement M
 is-member-spec = tie.close (tie.spec returns shared-slice-read-wide wide-requires returns-2)

@@ -10,7 +10,7 @@ use Rattle.answers.specs.Outcome.{outcome}
 use Rattle.answers.specs.declared.Judged.the-variants.{Fine}
 use Rattle.answers.specs.declared.Deposited.the-variants.{Done}
 use Rattle.answers.proofs.Outcomes.{held-fine, held-bad}
-use Rattle.entry.specs.Deposit.{depositTests, depositedIn, depositAct}
+use Rattle.entry.specs.Deposit.{depositedIn, depositAct}
 use Rattle.entry.proofs.Judging.{Deposits, deposit-fine}
 use Rattle.entry.proofs.deposit.deposit.Statement.{statement}
 use Rattle.entry.proofs.deposit.deposit.Tie as tie
@@ -18,11 +18,15 @@ use Rattle.entry.proofs.deposit.deposit.Tie as tie
 abbrev lent : tie.Start → Tables
 lent s = tables (s .args .accounts .now) (s .args .counters .now) (s .args .pays .now)
 
-fine : (c : tie.After-enum-told) → let s = c .before .before .before .before .before .before in first (depositAct (s .args .member) (s .args .amount) .tests (lent s)) ≡ Fine
+fine : (c : tie.After-enum-told) →
+    let after-judge-deposit = c .before .before in
+    let s = after-judge-deposit .before .before .before .before in first (depositAct (s .args .member) (s .args .amount) .tests (lent s)) ≡ Fine
 unfolding depositAct
 fine c = sym (c .before .before .judge-deposit .ensures) ∙ c .enum-told .given .1
 
-accepted : (c : tie.After-enum-told) → let s = c .before .before .before .before .before .before in Deposits (lent s) (s .args .member) (s .args .amount)
+accepted : (c : tie.After-enum-told) →
+    let after-judge-deposit = c .before .before in
+    let s = after-judge-deposit .before .before .before .before in Deposits (lent s) (s .args .member) (s .args .amount)
 accepted c = deposit-fine (fine c)
 
 judge-deposit-requires : tie.Need-judge-deposit-requires
@@ -39,8 +43,9 @@ sub-credit c = accepted (c .before) .one
 
 credit-requires : tie.Need-credit-requires
 credit-requires c κs =
+    let after-judge-deposit = c .before .before .before in
     let d = accepted (c .before) in
-    let h = c .before .before .before .before .before .before .before .pre in
+    let h = after-judge-deposit .before .before .before .before .pre in
     (accounts-bounded (h .accounts), (omega (arith, h .counters .few), d .small))
 
 same-length : tie.Need-same-length
@@ -49,7 +54,8 @@ same-length c = search needs
 returns : tie.Need-returns
 unfolding depositAct
 returns c =
-    let s = c .before .before .before .before .before .before .before in
+    let after-judge-deposit = c .before .before .before in
+    let s = after-judge-deposit .before .before .before .before in
     sym (held-bad (depositAct (s .args .member) (s .args .amount)) (lent s) (sym (c .before .before .before .judge-deposit .ensures) ∙ c .before .j .given .1))
 
 same-length-2 : tie.Need-same-length-2
@@ -58,7 +64,8 @@ same-length-2 c = search needs
 returns-2 : tie.Need-returns-2
 unfolding depositAct depositedIn
 returns-2 c =
-    let s = c .before .before .before .before .before .before .before .before .before in
+    let after-judge-deposit = c .before .before .before .before .before in
+    let s = after-judge-deposit .before .before .before .before in
     let r = c .before .credit .ok in
     let e = c .before .credit .ensures in
     simp plain (ap₂ (λ b a. outcome (Done b) (tables a (s .args .counters .now) (s .args .pays .now))) (e .0) (e .1)

@@ -28,7 +28,11 @@ same-length : tie.Need-same-length
 same-length c = search needs
 
 returns : tie.Need-returns
-returns c = rw (c .before .before .before .before .before .before .before .before .before .number .ensures, c .before .before .before .before .before .before .before .wide .ensures, c .before .before .before .before .before .before .before .before .size .ensures, c .before .before .before .before .before .wide2 .ensures, c .before .before .before .before .before .before .lowest .ensures) at (c .before .before .encode-u64 .ensures)
+returns c =
+    let l = c .before .before .before .before .before in
+    let n = l .before .before .before .before in
+    rw (n .number .ensures, l .before .before .wide .ensures, l .before .before .before .size .ensures, l .wide2 .ensures, l .before .lowest .ensures)
+    at (c .before .before .encode-u64 .ensures)
 
 pub resolution-spec : {M : Type 1} → statement M
 resolution-spec =

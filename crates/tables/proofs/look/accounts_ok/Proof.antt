@@ -28,7 +28,9 @@ unfolding accountsOk
 returns-2 c = rw (flag-yes (c .before .before .before .seats-ok .ensures) (c .before .before .if1 .left), flag-no (c .before .spare-ok .ensures) (c .if2 .taken))
 
 total-requires : tie.Need-total-requires
-total-requires c κs = seats-bounded (c .before .before .before .before .args .n) (c .before .before .before .before .args .accounts .now) (omega arith) (flag-yes (c .before .before .before .seats-ok .ensures) (c .before .before .if1 .left))
+total-requires c κs =
+    let s = c .before .before .before .before in
+    seats-bounded (s .args .n) (s .args .accounts .now) (omega arith) (flag-yes (c .before .before .before .seats-ok .ensures) (c .before .before .if1 .left))
 
 signed-requires : tie.Need-signed-requires
 signed-requires c κs = search needs
@@ -39,12 +41,15 @@ at-most-requires c κs = search needs
 returns-3 : tie.Need-returns-3
 unfolding accountsOk
 returns-3 c =
+    let after-spare-ok = c .before .before .before .before in
     let r = c .before .before .total .ok in
     let q = c .before .signed .ok in
     let g : c .at-most .result ≡ leZ (c .before .before .total .result) (c .before .signed .result) = simp plain at (c .at-most .ensures) in
-    let t : c .before .before .total .result ≡ moneyOf (c .before .before .before .before .before .before .before .args .accounts .now) = c .before .before .total .ensures in
+    let t : c .before .before .total .result ≡ moneyOf (after-spare-ok .before .before .before .args .accounts .now) = c .before .before .total .ensures in
     let u : c .before .signed .result ≡ pos most = c .before .signed .ensures in
-    rw (flag-yes (c .before .before .before .before .before .before .seats-ok .ensures) (c .before .before .before .before .before .if1 .left), flag-yes (c .before .before .before .before .spare-ok .ensures) (c .before .before .before .if2 .left)) (rw (t, u) at g)
+    let seats = flag-yes (after-spare-ok .before .before .seats-ok .ensures) (after-spare-ok .before .if1 .left) in
+    let spares = flag-yes (after-spare-ok .spare-ok .ensures) (c .before .before .before .if2 .left) in
+    rw (seats, spares) (rw (t, u) at g)
 
 pub accounts-ok-spec : {M : Type 1} → statement M
 accounts-ok-spec =

@@ -37,7 +37,10 @@ array-read-waits : tie.Need-array-read-waits Inv-loop μ-loop
 array-read-waits c = omega (arith, seat c)
 
 add-waits : tie.Need-add-waits Inv-loop μ-loop
-add-waits c = omega (arith, counted-room (c .before .before .before .before .before .args .n) (c .before .before .before .before .before .args .pays .now) (c .before .before .before .before .before .pre .0) (c .before .before .before .loop .i) (c .before .before .before .loop .waits) (c .before .before .before .loop .inv) (c .payer-of .result) (seat c))
+add-waits c =
+    let s = c .before .before .before .before .before in
+    let l = c .before .before .before .loop in
+    omega (arith, counted-room (s .args .n) (s .args .pays .now) (s .pre .0) (l .i) (l .waits) (l .inv) (c .payer-of .result) (seat c))
 
 array-write-waits : tie.Need-array-write-waits Inv-loop μ-loop
 array-write-waits c = omega (arith, seat c)
@@ -49,10 +52,16 @@ loop-less : tie.Need-loop-less Inv-loop μ-loop
 loop-less c = search needs
 
 loop-again : tie.Need-loop-again Inv-loop μ-loop
-loop-again c = rw (c .payer-of .ensures) (counted-again (c .before .before .before .before .before .args .n) (c .before .before .before .before .before .args .pays .now) (c .before .before .before .before .before .pre .0) (c .before .before .before .loop .i) (c .before .before .before .loop .waits) (c .before .before .before .loop .inv) (omega arith))
+loop-again c =
+    let s = c .before .before .before .before .before in
+    let l = c .before .before .before .loop in
+    rw (c .payer-of .ensures) (counted-again (s .args .n) (s .args .pays .now) (s .pre .0) (l .i) (l .waits) (l .inv) (omega arith))
 
 returns : tie.Need-returns Inv-loop μ-loop
-returns c = counted-end (c .before .before .before .args .n) (c .before .before .before .args .pays .now) (c .before .before .before .pre .0) (c .before .loop .i) (c .before .loop .waits) (c .before .loop .inv) (omega arith)
+returns c =
+    let s = c .before .before .before in
+    let l = c .before .loop in
+    counted-end (s .args .n) (s .args .pays .now) (s .pre .0) (l .i) (l .waits) (l .inv) (omega arith)
 
 pub count-waiting-spec : {M : Type 1} → statement M
 count-waiting-spec =

@@ -61,8 +61,15 @@ shared-slice-read-queue-ok-2 c = search needs
 queue-ok-requires : tie.Need-queue-ok-requires Inv-loop μ-loop
 queue-ok-requires c κs = search needs
 
-answer : (c : tie.After-queue-ok Inv-loop μ-loop) → c .queue-ok .result ≡ queueAt (c .before .before .before .before .before .before .before .before .before .before .before .before .args .counters .now) (c .before .before .before .before .before .before .before .before .before .before .before .before .args .pays .now) (c .before .before .before .before .loop .i)
-answer c = rw (c .before .before .before .before .before .count-waiting .ensures (c .before .before .before .before .loop .i) (omega arith), c .before .before .before .before .before .before .before .before .wide .ensures, c .before .before .before .before .before .before .wide2 .ensures) at (c .queue-ok .ensures)
+abbrev start : tie.At-loop Inv-loop μ-loop → tie.Start Inv-loop μ-loop
+start c = let w = c .before .before .before .before in w .before .before .before .before
+
+answer : (c : tie.After-queue-ok Inv-loop μ-loop) → let l = c .before .before .before .before in
+    c .queue-ok .result ≡ queueAt (start l .args .counters .now) (start l .args .pays .now) (l .loop .i)
+answer c =
+    let at-loop = c .before .before .before .before in
+    let w = at-loop .before .count-waiting .ensures (at-loop .loop .i) (omega arith) in
+    rw (w, at-loop .before .before .before .before .wide .ensures, at-loop .before .before .wide2 .ensures) at (c .queue-ok .ensures)
 
 returns : tie.Need-returns Inv-loop μ-loop
 unfolding queuesOk

@@ -38,7 +38,8 @@ shared-slice-copy-out-account-ok-2 c = search needs
 account-ok-requires : tie.Need-account-ok-requires Inv-loop μ-loop
 account-ok-requires c κs = search needs
 
-answer : (c : tie.After-account-ok Inv-loop μ-loop) → c .account-ok .result ≡ accountAt (c .before .before .before .before .before .args .n) (c .before .before .before .before .before .args .accounts .now) (c .before .before .before .before .loop .i)
+answer : (c : tie.After-account-ok Inv-loop μ-loop) → let s = c .before .before .before .before .before in
+    c .account-ok .result ≡ accountAt (s .args .n) (s .args .accounts .now) (c .before .before .before .before .loop .i)
 answer c =
     let g = c .before .before .account-ok-arg .given in
     let h = c .before .account-ok-arg2 .given in

@@ -30,7 +30,8 @@ shared-slice-copy-out-sum : tie.Need-shared-slice-copy-out-sum Inv-loop μ-loop
 shared-slice-copy-out-sum c = search needs
 
 -- the sum so far with one balance more
-fits : (c : tie.After-sum Inv-loop μ-loop) → SFits w64 (money (c .before .before .loop .i) (balanceOf (c .before .before .before .args .balances .now)) +ℤ balanceOf (c .before .before .before .args .balances .now) (c .before .before .loop .i))
+fits : (c : tie.After-sum Inv-loop μ-loop) → let b = balanceOf (c .before .before .before .args .balances .now) in
+    SFits w64 (money (c .before .before .loop .i) b +ℤ b (c .before .before .loop .i))
 fits c = rw add-one at (sum-fits (c .before .before .before .pre) (c .before .before .loop .i + 1) (omega arith))
 
 add-sum : tie.Need-add-sum Inv-loop μ-loop

@@ -12,5 +12,6 @@ pub encode-i64-spec : {M : Type 1} → statement M
 encode-i64-spec =
     tie.close (tie.spec (λ xs s₀ at i₀ i-end s i. Writing (ofZ w64) 8 xs at s₀ s i) (λ xs s₀ at i₀ i-end s i. i-end - i)
     (λ c. write-start) (λ c. search needs) (λ c. search needs) (λ c. search needs) (λ c. search needs) (λ c κs. search needs) (λ c. search needs) (λ c. search needs)
-    (λ c. write-turn-signed (c .before .before .before .before .before .before .loop .inv) (omega arith) (record { sfits = c .before .before .before .before .x .given }) (c .before .before .write-i64 .ensures))
+    (λ c. let x = c .before .before .before .before in
+    write-turn-signed (x .before .before .loop .inv) (omega arith) (record { sfits = x .x .given }) (c .before .before .write-i64 .ensures))
     (λ c. search needs) (λ c. write-end (c .before .loop .inv) (omega arith)))
