@@ -1,6 +1,6 @@
 -- A call on bytes that hold a state is a request on their lists, or none where the code is not 0.
 use mathlib.Core.Path.{_≡_, refl, sym, ap, _∙_, subst}
-use mathlib.Core.List.{List, [], _∷_, _++_}
+use mathlib.Core.List.{List, [], _∷_}
 use Prim.Native.Nat.{ℕ, zero, suc, _≤_}
 use native.Mathlib.Omega.{arith}
 use lib.ListN.{length}
@@ -16,7 +16,7 @@ use Rattle.entry.specs.Submit.{submitAct}
 use Rattle.settling.specs.Release.{releaseAct}
 use Rattle.settling.specs.Group.{bookAct, groupAct}
 use Rattle.resolving.specs.Resolve.{resolveAct}
-use Rattle.lent.specs.Bytes.{tablesIn, withTables, countsIn}
+use Rattle.lent.specs.Bytes.{tablesIn, withTables, countsIn, signedIn}
 use Rattle.lent.specs.Stands.{Kept, Stands}
 use Rattle.lent.proofs.Back.{kept-fits, stored-long, tables-back}
 use Rattle.lent.specs.Reply.{Lent, lends}
@@ -43,7 +43,7 @@ stored-stands s {t} {W} l k e =
 
 -- the request that is made, on these lists
 abbrev pub requested : Ask → List ℕ → List Request
-requested (opens n u v) c = []
+requested (opens n u v) c = day.opens n (signedIn u) (signedIn v) ∷ []
 requested (deposits m x) c = day.deposits m x ∷ []
 requested (submits m n q x) c = day.submits m n q x ∷ []
 requested (releases m) c = day.releases m ∷ []

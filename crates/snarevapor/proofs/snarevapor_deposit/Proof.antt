@@ -16,7 +16,8 @@ is-roomy-requires c κs = search needs
 returns : tie.Need-returns
 returns c =
     let s = c .before .before .before .before in
-    reply-short 8 toldDeposited (called (depositAct (s .args .member) (s .args .amount))) (lends (s .args .tables .now) [] (s .args .answer .now)) (flag-no (c .before .is-roomy .ensures) (c .if1 .taken))
+    let x = lends (s .args .tables .now) [] (s .args .answer .now) in
+    reply-short 8 toldDeposited (called (depositAct (s .args .member) (s .args .amount))) x (flag-no (c .before .is-roomy .ensures) (c .if1 .taken))
 
 deposit-requires : tie.Need-deposit-requires
 deposit-requires c κs = lent-room _ _ 8 (flag-yes (c .before .before .before .is-roomy .ensures) (c .before .before .if1 .left))
@@ -29,8 +30,12 @@ same-length-2 c = search needs
 
 returns-2 : tie.Need-returns-2
 returns-2 c =
-    let s = c .before .before .before .before .before .before .before .before .before .before .before in
-    reply-long 8 toldDeposited (called (depositAct (s .args .member) (s .args .amount))) (lends (s .args .tables .now) [] (s .args .answer .now)) (flag-yes (c .before .before .before .before .before .before .before .before .is-roomy .ensures) (c .before .before .before .before .before .before .before .if1 .left)) (c .before .before .before .before .deposit .ensures)
+    let after-deposit = c .before .before .before .before in
+    let after-is-roomy = after-deposit .before .before .before .before in
+    let s = after-is-roomy .before .before .before in
+    let x = lends (s .args .tables .now) [] (s .args .answer .now) in
+    let long = flag-yes (after-is-roomy .is-roomy .ensures) (after-deposit .before .before .before .if1 .left) in
+    reply-long 8 toldDeposited (called (depositAct (s .args .member) (s .args .amount))) x long (after-deposit .deposit .ensures)
 
 pub snarevapor-deposit-spec : {M : Type 1} → statement M
 snarevapor-deposit-spec =

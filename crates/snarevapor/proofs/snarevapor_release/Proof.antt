@@ -29,8 +29,12 @@ same-length-2 c = search needs
 
 returns-2 : tie.Need-returns-2
 returns-2 c =
-    let s = c .before .before .before .before .before .before .before .before .before .before .before in
-    reply-long 16 toldReleased (called (releaseAct (s .args .member))) (lends (s .args .tables .now) [] (s .args .answer .now)) (flag-yes (c .before .before .before .before .before .before .before .before .is-roomy .ensures) (c .before .before .before .before .before .before .before .if1 .left)) (c .before .before .before .before .release .ensures)
+    let after-release = c .before .before .before .before in
+    let after-is-roomy = after-release .before .before .before .before in
+    let s = after-is-roomy .before .before .before in
+    let x = lends (s .args .tables .now) [] (s .args .answer .now) in
+    let long = flag-yes (after-is-roomy .is-roomy .ensures) (after-release .before .before .before .if1 .left) in
+    reply-long 16 toldReleased (called (releaseAct (s .args .member))) x long (after-release .release .ensures)
 
 pub snarevapor-release-spec : {M : Type 1} → statement M
 snarevapor-release-spec =

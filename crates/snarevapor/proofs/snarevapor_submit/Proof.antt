@@ -16,7 +16,8 @@ is-roomy-requires c κs = search needs
 returns : tie.Need-returns
 returns c =
     let s = c .before .before .before in
-    reply-short 0 toldSubmitted (called (submitAct (s .args .payer) (s .args .number) (s .args .payee) (s .args .amount))) (lends (s .args .tables .now) [] []) (flag-no (c .before .is-roomy .ensures) (c .if1 .taken))
+    let k = submitAct (s .args .payer) (s .args .number) (s .args .payee) (s .args .amount) in
+    reply-short 0 toldSubmitted (called k) (lends (s .args .tables .now) [] []) (flag-no (c .before .is-roomy .ensures) (c .if1 .taken))
 
 submit-requires : tie.Need-submit-requires
 submit-requires c κs = lent-room _ 0 0 (flag-yes (c .before .before .is-roomy .ensures) (c .before .if1 .left)) .0
@@ -26,8 +27,11 @@ same-length c = search needs
 
 returns-2 : tie.Need-returns-2
 returns-2 c =
-    let s = c .before .before .before .before .before .before .before in
-    reply-long 0 toldSubmitted (called (submitAct (s .args .payer) (s .args .number) (s .args .payee) (s .args .amount))) (lends (s .args .tables .now) [] []) (flag-yes (c .before .before .before .before .before .is-roomy .ensures) (c .before .before .before .before .if1 .left)) (c .before .before .submit .ensures)
+    let after-is-roomy = c .before .before .before .before .before in
+    let s = after-is-roomy .before .before in
+    let k = submitAct (s .args .payer) (s .args .number) (s .args .payee) (s .args .amount) in
+    let long = flag-yes (after-is-roomy .is-roomy .ensures) (c .before .before .before .before .if1 .left) in
+    reply-long 0 toldSubmitted (called k) (lends (s .args .tables .now) [] []) long (c .before .before .submit .ensures)
 
 pub snarevapor-submit-spec : {M : Type 1} → statement M
 snarevapor-submit-spec =
