@@ -37,12 +37,12 @@ use Rattle.night.specs.Stages.{restSays}
 use Rattle.sheet.specs.Sheet.{Night, textsOf, entryIn, stepOf, morning, closed, sheetOf}
 use Rattle.days.specs.Days.{accepted, made}
 use Rattle.days.proofs.Joins.{deposits-join, payments-join}
-use Rattle.days.proofs.Chains.{chain-carries}
+use Rattle.days.proofs.Chains.{chain-carries, made-join}
 use Rattle.days.proofs.Openings.{begun-stands, begun-members}
 use Rattle.nights.specs.Files.{requestOf, requestsOf, requestsIn, isEnd, nightAfter, membersOf, Whole, madeAfter, tablesAfter, closingOf}
-use Rattle.nights.specs.Printed.{judgedCall, judgedLine, printedAs, saysOf, saysIn, ifQueued, ifDeposited, readCall, readLine, readOff}
+use Rattle.nights.specs.Printed.{judgedCall, judgedLine, printedAs, saysOf, saysIn, ifQueued, ifDeposited, readCall, readLine, readOff, Reads}
 use Rattle.nights.proofs.Calls.{day-stays}
-use Rattle.nights.proofs.Requests.{made-join}
+use Rattle.nights.proofs.Requests.{line-inside}
 use Rattle.nights.proofs.Runs.{run-join, run-few, step-day, line-gone, end-closes}
 use Rattle.nights.proofs.Openings.{opens-begun}
 use Rattle.nights.proofs.Demands.{day-gone}
@@ -102,11 +102,6 @@ module _ {t : Tables} (h : Holds t) (i : ℕ) where
   line-refused E.bad {r} q = let e : BadLine ≡ r = cc in ap (λ (r : Refusal). says (refusal i r) G.Day t) e
 
 -- ---- what is read off a line
-
--- cs and ds have the same deposits and payments
-pub record Reads (cs ds : List Call) : Type 0 where
-  pub totals : (k : ℕ) → deposits cs k ≡ deposits ds k
-  pub paid : (k : ℕ) → payments cs k ≡ payments ds k
 
 reads-same : {cs ds : List Call} → cs ≡ ds → Reads cs ds
 reads-same e = record { totals = λ k. ap (λ (l : List Call). deposits l k) e; paid = λ k. ap (λ (l : List Call). payments l k) e }
@@ -175,7 +170,7 @@ lines-print d [] day h q on few = record { holds = h; sheet = sym (append-nil (d
 lines-print {n} d (l ∷ ls) day h q on few =
     let qs = requestsOf n (entryIn l) in
     let g = line-gone d l day (omega arith) h q (on .0) in
-    let c = chain-carries h qs in
+    let c = chain-carries h qs (line-inside n (entryIn l) (d .tables)) in
     let k = lines-print {n = n} (stepOf d l) ls (g .stage) (subst Holds (sym (g .after)) (c .stands)) (ap membersIn (g .after) ∙ c .members ∙ q) (on .1) (omega (arith, g .lines)) in
     let s = saysOf d l in
     let m : made (qs ++ requestsIn n ls) (d .tables) ≡ made qs (d .tables) ++ made (requestsIn n ls) (stepOf d l .tables) =

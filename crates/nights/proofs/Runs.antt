@@ -94,7 +94,7 @@ lines-gone d [] day h q on few = record { stage = day; lines = omega arith; afte
 lines-gone {n} d (l ∷ ls) day h q on few =
     let qs = requestsOf n (entryIn l) in
     let g = line-gone d l day (omega arith) h q (on .0) in
-    let c = chain-carries h qs (line-inside n (entryIn l) (countsIn l) (d .tables)) in
+    let c = chain-carries h qs (line-inside n (entryIn l) (d .tables)) in
     let k = lines-gone {n = n} (stepOf d l) ls (g .stage) (subst Holds (sym (g .after)) (c .stands)) (ap membersIn (g .after) ∙ c .members ∙ q) (on .1) (omega (arith, g .lines)) in
     record {
       stage = k .stage;

@@ -1,12 +1,13 @@
 -- What the lines of a day print, and what can be read off a file and its sheet: the accepted deposits and payments. i is the number of a
 -- line, t the tables that it finds.
+use mathlib.Core.Path.{_≡_}
 use mathlib.Core.List.{List, [], _∷_, _++_}
 use Prim.Native.Nat.{ℕ, _+_, _-_}
 use lib.IntN.{pos, _+ℤ_}
 use Rattle.rule.specs.Kernel.{sum}
 use Rattle.rule.specs.House.{sent}
 use Rattle.rule.specs.Payment.{word}
-use Rattle.rule.specs.Day.{Call, deposit, submit}
+use Rattle.rule.specs.Day.{Call, deposit, submit, deposits, payments}
 use Rattle.tables.specs.Layout.{Tables, membersIn, houseIn, balanceOf, settledOf}
 use Rattle.booking.specs.Booking.{listed}
 use Rattle.answers.specs.Outcome.{judgement}
@@ -112,3 +113,8 @@ readLine E.bad ss = []
 abbrev pub readOff : Night → List Line → List Call
 readOff d [] = []
 readOff d (l ∷ ls) = readLine (entryIn l) (saysOf d l) ++ readOff (stepOf d l) ls
+
+-- cs and ds have the same deposits and payments
+pub record Reads (cs ds : List Call) : Type 0 where
+  pub totals : (k : ℕ) → deposits cs k ≡ deposits ds k
+  pub paid : (k : ℕ) → payments cs k ≡ payments ds k
