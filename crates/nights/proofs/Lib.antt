@@ -7,4 +7,3 @@ pub mod Demands
 pub mod Ends
 pub mod Printed
 pub mod Splits
-pub mod Examples

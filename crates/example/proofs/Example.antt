@@ -1,4 +1,4 @@
--- Document 01's example
+-- Document 01's example: the sheet of its day file follows from the definitions alone. A crate of its own, since it takes ten seconds.
 use mathlib.Core.Path.{_≡_, refl}
 use mathlib.Core.List.{List, [], _∷_}
 use Prim.Native.Nat.{ℕ}
@@ -24,8 +24,8 @@ use Rattle.cut.specs.Lines.{linesFrom}
 use Rattle.cut.specs.Chunks.{runOf}
 use Rattle.sheet.specs.Sheet.{sheetOf}
 
--- example
-abbrev exampleFile : List ℕ
+-- the input
+abbrev pub exampleFile : List ℕ
 exampleFile =
     104 ∷ 111 ∷ 117 ∷ 115 ∷ 101 ∷ 9 ∷ 49 ∷ 9 ∷ 50 ∷ 10 ∷
     109 ∷ 101 ∷ 109 ∷ 98 ∷ 101 ∷ 114 ∷ 9 ∷ 49 ∷ 9 ∷ 49 ∷ 48 ∷ 9 ∷ 48 ∷ 10 ∷
@@ -37,7 +37,8 @@ exampleFile =
     114 ∷ 101 ∷ 115 ∷ 111 ∷ 108 ∷ 118 ∷ 101 ∷ 10 ∷
     101 ∷ 110 ∷ 100 ∷ 10 ∷ []
 
-abbrev exampleSheet : List ℕ
+-- the whole sheet
+abbrev pub exampleSheet : List ℕ
 exampleSheet =
     51 ∷ 9 ∷ 111 ∷ 112 ∷ 101 ∷ 110 ∷ 9 ∷ 50 ∷ 9 ∷ 49 ∷ 48 ∷ 10 ∷
     52 ∷ 9 ∷ 113 ∷ 117 ∷ 101 ∷ 117 ∷ 101 ∷ 100 ∷ 9 ∷ 49 ∷ 9 ∷ 49 ∷ 10 ∷
@@ -49,6 +50,7 @@ exampleSheet =
     98 ∷ 97 ∷ 108 ∷ 97 ∷ 110 ∷ 99 ∷ 101 ∷ 9 ∷ 50 ∷ 9 ∷ 49 ∷ 48 ∷ 9 ∷ 48 ∷ 10 ∷
     109 ∷ 111 ∷ 110 ∷ 101 ∷ 121 ∷ 9 ∷ 49 ∷ 48 ∷ 10 ∷ []
 
-example-computes : sheetOf exampleFile ≡ exampleSheet
-unfolding runOf linesFrom fieldsOf same numbersOf digitsFrom lastDigits widthUpTo tabbed held openAct openedIn fill listing fillAt every submitAct submittedIn releaseAct largestIn resolution put sent received worth payeeOf payerOf amountOf flagsOf bookedIn sizeOf lowestOf
+pub example-computes : sheetOf exampleFile ≡ exampleSheet
+unfolding runOf linesFrom fieldsOf same numbersOf digitsFrom lastDigits widthUpTo tabbed held openAct openedIn fill listing fillAt every
+    submitAct submittedIn releaseAct largestIn resolution put sent received worth payeeOf payerOf amountOf flagsOf bookedIn sizeOf lowestOf
 example-computes = refl
