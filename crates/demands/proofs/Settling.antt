@@ -5,6 +5,7 @@ use mathlib.Core.List.{List}
 use Prim.Native.Nat.{ℕ}
 use native.Mathlib.Omega.{arith}
 use lib.Dec.{eqb}
+use lib.ListN.{length}
 use Rattle.rule.specs.Kernel.{Counts, sum}
 use Rattle.rule.specs.House.{House, waits}
 use Rattle.rule.specs.Verdict.{verdict}
@@ -22,12 +23,12 @@ use Rattle.answers.proofs.Outcomes.{judgement-fine}
 use Rattle.resolving.specs.Resolve.{resolveAct, largestIn, told}
 use Rattle.resolving.proofs.Resolves.{largest-is, largest-books, resolve-verdict}
 use Rattle.words.specs.Row.{putRow, plain}
-use Rattle.lent.specs.Bytes.{tablesIn, countsIn, lent}
+use Rattle.lent.specs.Bytes.{tablesIn, countsIn, roomy}
 use Rattle.lent.specs.Reply.{Lent, lends, written, onBytes}
 use Rattle.lent.specs.Asks.{toldResolved, partsOf, resolves}
+use Rattle.lent.specs.Stands.{Stands}
 use Rattle.hosts.specs.Hosts.{Call}
 use Rattle.hosts.proofs.Replies.{called-accepted}
-use Rattle.lent.specs.Stands.{Stands}
 use Rattle.hosts.proofs.Links.{linked}
 use Rattle.demands.specs.Settles.{Settles}
 
@@ -60,9 +61,11 @@ module _ (k : List ℕ) (T : Tables) (fine : judgement (resolveAct k) T ≡ Fine
   pub resolve-settles : Settles T (called (resolveAct k) T .after) (numberOf (toldIn T .verdict))
   unfolding resolveAct
   resolve-settles =
+      let v = numberOf (toldIn T .verdict) in
       let a : bookedIn T (listed (largestIn T)) ≡ called (resolveAct k) T .after = sym (ap (λ (u : Outcome (Resolved × List ℕ)). u .after) done-is) in
-      let v = sym (number-named (membersIn T) (houseIn T) (listed (largestIn T))) in
-      subst (λ (W : Tables). Settles T W (numberOf (toldIn T .verdict))) a (subst (Settles T (bookedIn T (listed (largestIn T)))) v (booked-settles (judgement-fine (resolveAct k) T fine .0)))
+      let e = sym (number-named (membersIn T) (houseIn T) (listed (largestIn T))) in
+      let s : Settles T (bookedIn T (listed (largestIn T))) v = subst (Settles T (bookedIn T (listed (largestIn T)))) e (booked-settles (judgement-fine (resolveAct k) T fine .0)) in
+      subst (λ (W : Tables). Settles T W v) a s
 
 -- ---- on a host's bytes
 
@@ -76,7 +79,7 @@ module _ {s t : List ℕ} (c : Call resolves 0 s t) where
 
   -- what the answer's bytes hold
   pub bytes-answer : c .answer′ ≡ putRow plain 8 (c .answer) 0 (partsOf (toldIn (tablesIn s)))
-  bytes-answer = go (lent s (c .answer) 48) (c .promise)
+  bytes-answer = go (roomy (length s) (length (c .answer)) 48) (c .promise)
     where
       go : (b : Bool) → (0, lends t (c .counts′) (c .answer′)) ≡ cond b (onBytes toldResolved (called K) (lends s (c .counts) (c .answer))) (1, lends s (c .counts) (c .answer))
           → c .answer′ ≡ putRow plain 8 (c .answer) 0 (partsOf (toldIn (tablesIn s)))
@@ -87,4 +90,6 @@ module _ {s t : List ℕ} (c : Call resolves 0 s t) where
       go false e = absurd (let z : _≡_ {A = ℕ} 0 1 = ap (λ (r : ℕ × Lent). r .0) e in omega arith)
 
   pub bytes-settle : Stands s → Settles (tablesIn s) (tablesIn t) (numberOf (toldIn (tablesIn s) .verdict))
-  bytes-settle h = subst (λ (W : Tables). Settles (tablesIn s) W (numberOf (toldIn (tablesIn s) .verdict))) (sym (linked h c tt .is)) (resolve-settles (countsIn (c .counts)) (tablesIn s) bytes-fine)
+  bytes-settle h =
+      let v = numberOf (toldIn (tablesIn s) .verdict) in
+      subst (λ (W : Tables). Settles (tablesIn s) W v) (sym (linked h c tt .is)) (resolve-settles (countsIn (c .counts)) (tablesIn s) bytes-fine)

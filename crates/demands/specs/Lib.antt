@@ -1,3 +1,4 @@
 pub mod Refusals
 pub mod Settles
 pub mod Alike
+pub mod Terms
