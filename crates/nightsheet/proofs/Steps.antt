@@ -91,7 +91,8 @@ module _ {chunk buf out : List ℕ} {t : Tables} (chunk₁ : List ℕ) {r : Run}
   pub stood-taken : (got : ℤ) → Stood N.Read r chunk buf t out → let x = takenAs got (length chunk₁) (r .state) in Stood (x .next) x chunk₁ buf t out
   stood-taken got s = go (ltb 0 (clamped got (length chunk₁))) (ltZ got (pos 0))
     where
-      go : (b f : Bool) → let x = cond b (runOf N.Eat (clamped got (length chunk₁)) (r .state)) (runOf (cond f N.Failed N.Close) 0 (r .state)) in Stood (x .next) x chunk₁ buf t out
+      go : (b f : Bool) → let x = cond b (runOf N.Eat (clamped got (length chunk₁)) (r .state)) (runOf (cond f N.Failed N.Close) 0 (r .state)) in
+          Stood (x .next) x chunk₁ buf t out
       go true f = handed-on (clamped got (length chunk₁)) (clamped-under got (length chunk₁)) s
       go false true = tt
       go false false = input-ends s
@@ -103,7 +104,8 @@ ready-flushed : {q : State} {u : Tables} {m : ℕ} (n : Next) (at got : ℕ) (ch
 ready-flushed n at got chunk f l g = record { fit = record { few = f .few; room = omega arith; held = f .held; stands = f .stands }; clear = refl; eaten = l; read = g }
 
 -- where a fed chunk leads: with room left all is eaten, or the night is over
-fed-leads : (d : Desk) (rest : List ℕ) (q : State) (u : Tables) (out buf : List ℕ) → Stops turnOf (goesOn (length out)) d (deskOf rest q u out buf) → length out ≡ outBytes → q .used ≤ length out
+fed-leads : (d : Desk) (rest : List ℕ) (q : State) (u : Tables) (out buf : List ℕ) → Stops turnOf (goesOn (length out)) d (deskOf rest q u out buf)
+    → length out ≡ outBytes → q .used ≤ length out
     → AteTo (fedNext q) rest (q .stage)
 fed-leads d rest q u out buf s l m = go (isOver (q .stage)) (hasRoom outBytes (q .used)) refl refl
   where

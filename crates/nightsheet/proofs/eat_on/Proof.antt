@@ -54,7 +54,8 @@ returns c =
     let f = fed (c .before .before .before) in
     let k = f .feed in
     let p = begin (f .before) .pre in
-    fed-ate _ _ _ _ (p .1) (p .0 .long) (omega (arith, k .kept)) (k .result) (k .ensures .0) (k .ensures .1 .0) (k .ensures .1 .1) (c .before .before .fed-next .ensures) (c .write-out .ensures)
+    let n = c .before .before .fed-next .ensures in
+    fed-ate _ _ _ _ (p .1) (p .0 .long) (omega (arith, k .kept)) (k .result) (k .ensures .0) (k .ensures .1 .0) (k .ensures .1 .1) n (c .write-out .ensures)
 
 pub eat-on-spec : {M : Type 1} → statement M
 eat-on-spec =

@@ -34,18 +34,20 @@ stepped c = let d = c .before .before .before .before in let e = d .before .befo
 
 -- a step was left
 left : (c : tie.After-step Inv-loop μ-loop) → 0 < looped (c .before) .loop .turns
-left c = let d = c .before .before .before .before .before in let e = d .before .before .before in step-left (looped (c .before) .loop .r .next) (looped (c .before) .loop .turns) (e .before .goes-on .ensures) (e .if1 .taken)
+left c =
+    let d = c .before .before .before .before .before in
+    let e = d .before .before .before in
+    let g = looped (c .before) .loop in
+    step-left (g .r .next) (g .turns) (e .before .goes-on .ensures) (e .if1 .taken)
 
 start-requires : tie.Need-start-requires Inv-loop μ-loop
 start-requires c κs = search needs
 
 loop-holds : tie.Need-loop-holds Inv-loop μ-loop
 loop-holds c =
-    let s = entered c in (
-      s .pre .0,
-      subst (λ (q : State). Stood N.Read (runOf N.Read 0 q) (s .args .chunk .now) (s .args .buf .now) (tables (s .args .accounts .now) (s .args .counters .now) (s .args .pays .now)) (s .args .out .now))
-          (sym (c .start .ensures)) (stood-first (s .pre .0) (s .pre .1)),
-    )
+    let s = entered c in
+    let t = tables (s .args .accounts .now) (s .args .counters .now) (s .args .pays .now) in
+    (s .pre .0, subst (λ (q : State). Stood N.Read (runOf N.Read 0 q) (s .args .chunk .now) (s .args .buf .now) t (s .args .out .now)) (sym (c .start .ensures)) (stood-first (s .pre .0) (s .pre .1)))
 
 goes-on-requires : tie.Need-goes-on-requires Inv-loop μ-loop
 goes-on-requires c κs = search needs
@@ -63,8 +65,18 @@ loop-again : tie.Need-loop-again Inv-loop μ-loop
 loop-again c =
     let d = stepped c in
     let m = looped (d .before) .loop .inv .0 in
-    let k = d .step .kept in
-    (record { bytes = omega (arith, k, m .bytes); line = omega (arith, k, m .line); slots = omega (arith, k, m .slots); accounts = omega (arith, k, m .accounts); counters = omega (arith, k, m .counters); pays = omega (arith, k, m .pays); long = omega (arith, k, m .long) }, d .step .ensures)
+    let k = d .step .kept in (
+      record {
+        bytes = omega (arith, k, m .bytes);
+        line = omega (arith, k, m .line);
+        slots = omega (arith, k, m .slots);
+        accounts = omega (arith, k, m .accounts);
+        counters = omega (arith, k, m .counters);
+        pays = omega (arith, k, m .pays);
+        long = omega (arith, k, m .long);
+      },
+      d .step .ensures,
+    )
 
 same-length : tie.Need-same-length Inv-loop μ-loop
 same-length c = omega (arith, c .before .before .loop .inv .0 .bytes, begin (c .before .before) .pre .0 .bytes)
