@@ -1,6 +1,4 @@
 pub mod Opening
-pub mod Settling
 pub mod EndLines
 pub mod Found
-pub mod Amounts
 pub mod Kept

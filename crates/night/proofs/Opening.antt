@@ -35,7 +35,8 @@ use Rattle.night.specs.declared.Stage.the-variants as G
 use Rattle.night.specs.declared.Said.the-variants.{One}
 use Rattle.night.specs.declared.Does.{Does}
 use Rattle.tables.specs.Layout.{linesAt, Tables}
-use Rattle.night.specs.Lines.{did, quiet, refusal, stops, houseDoes, given, memberDoes, openSays, openStage, balancesGiven, linesGiven, opensTo, openDoes}
+use Rattle.daylines.specs.Calls.{refusal}
+use Rattle.night.specs.Lines.{did, quiet, stops, houseDoes, given, memberDoes, openSays, openStage, balancesGiven, linesGiven, opensTo, openDoes}
 
 -- any line but one of the opening stops the night,
 pub house-other : (n : ℕ) (t : Tables) (e : Entry) → OneOf (1 ∷ 2 ∷ 3 ∷ []) (tagOf the-type e) → houseDoes n t (meant e []) ≡ stops n Line t

@@ -4,7 +4,6 @@ mod ending;
 mod openings;
 mod stages;
 
-use answers::Refusal;
 use dayfile::Entry;
 pub use ending::end_line;
 pub use ending::end_next;
@@ -16,7 +15,7 @@ ghost use mathlib.Core.Path.{_≡_};
 ghost use Rattle.night.specs.declared.Said.the-variants.{Nothing, One};
 ghost use Rattle.tables.specs.Layout.{tables};
 ghost use Rattle.dayfile.specs.Reading.{meant, Read};
-ghost use Rattle.night.specs.Lines.{did, refusal, doesOf};
+ghost use Rattle.night.specs.Lines.{did, doesOf};
 ghost use Rattle.night.specs.Stands.{Stands};
 
 // Where the night stands: before the house line; in the opening of a house of some members, of whom some were given; in the day; at the
@@ -81,11 +80,4 @@ fn says(s: Says, stage: Stage) -> Does
         said: Said::One(s),
         stage,
     }
-}
-
-// Line n is refused.
-fn refused(n: u64, r: Refusal) -> Says
-    ensures { λ s. ⌜ s ≡ refusal n r ⌝ }
-{
-    Says::Refused(n, answers::code(r) as u64)
 }

@@ -2,7 +2,6 @@
 use crate::Does;
 use crate::Stage;
 use crate::quiet;
-use crate::refused;
 use crate::says;
 use answers::Opened;
 use answers::Refusal;
@@ -22,14 +21,15 @@ ghost use Rattle.numbers.specs.Numbers.{mostDigits};
 ghost use Rattle.tables.specs.Sizes.{members, table};
 ghost use Rattle.tables.specs.Layout.{linesAt, Tables, tables};
 ghost use Rattle.dayfile.specs.Reading.{meant};
-ghost use Rattle.night.specs.Lines.{did, refusal, houseDoes, openDoes, memberDoes};
+ghost use Rattle.daylines.specs.Calls.{refusal};
+ghost use Rattle.night.specs.Lines.{did, houseDoes, openDoes, memberDoes};
 ghost use Rattle.night.specs.Stands.{Giving, SmallMember};
 
 // A refusal in the opening: the night stops.
 fn stop(n: u64, r: Refusal) -> Does
     ensures { λ d. ⌜ d ≡ record { said = One (refusal n r); stage = Over } ⌝ }
 {
-    says(refused(n, r), Stage::Over)
+    says(daylines::refused(n, r), Stage::Over)
 }
 
 // The first line: a house of 1 to 64 members.

@@ -22,7 +22,8 @@ use Rattle.resolving.specs.Resolve.{resolveAct, largestIn}
 use Rattle.dayfile.specs.Entries as E
 use Rattle.dayfile.specs.Entries.{DayLine, Entry}
 use Rattle.night.specs.declared.Stage.the-variants as G
-use Rattle.night.specs.Lines.{quiet, callDoes, dayDoes}
+use Rattle.daylines.specs.Calls.{callDoes}
+use Rattle.night.specs.Lines.{quiet, dayDoes}
 use Rattle.days.specs.Days.{afterAll}
 use Rattle.nights.specs.Files.{requestOf, requestsOf, isEnd}
 
@@ -57,14 +58,7 @@ module _ {t : Tables} (h : Holds t) where
 -- after any line but `end` it is still day,
 pub day-stays : (i : ℕ) (t : Tables) (e : Entry) → isEnd e ≡ false → dayDoes i t e .stage ≡ G.Day
 day-stays i t (E.opening o) q = refl
-day-stays i t (E.day d) q = go d
-  where
-    go : (d : DayLine) → callDoes i t d .stage ≡ G.Day
-    go (E.pay kind m k p x) = refl
-    go (E.deposit m x) = refl
-    go (E.release m) = refl
-    go (E.group k) = refl
-    go E.resolve = refl
+day-stays i t (E.day d) q = refl
 day-stays i t E.end q = let z : true ≡ false = q in cc
 day-stays i t E.bad q = refl
 

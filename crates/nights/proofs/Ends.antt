@@ -22,7 +22,8 @@ use Rattle.cut.specs.Chunks.{runOf}
 use Rattle.print.specs.Lines.{textOf}
 use Rattle.night.specs.declared.Stage.{Stage}
 use Rattle.night.specs.declared.Stage.the-variants as G
-use Rattle.night.specs.Lines.{Did, quiet, refusal, stops, houseDoes, given, balancesGiven, linesGiven, opensTo, openDoes, givenDoes, memberDoes, doesOf}
+use Rattle.daylines.specs.Calls.{refusal}
+use Rattle.night.specs.Lines.{Did, quiet, stops, houseDoes, given, balancesGiven, linesGiven, opensTo, openDoes, givenDoes, memberDoes, doesOf}
 use Rattle.dayfile.specs.Entries.{mostLines, Entry}
 use Rattle.night.specs.Stages.{told, isOver}
 use Rattle.sheet.specs.Sheet.{Night, finished, entryIn, after, stopped, stepOf, morning, closed}

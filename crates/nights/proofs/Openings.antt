@@ -27,9 +27,9 @@ use Rattle.cut.specs.Lines.{Line}
 use Rattle.cut.specs.Chunks.{runOf}
 use Rattle.night.specs.declared.Stage.{Stage}
 use Rattle.night.specs.declared.Stage.the-variants as G
-use Rattle.night.specs.Lines.{Did, quiet, stops, houseDoes, given, openStage, balancesGiven, linesGiven, openDoes, givenDoes, memberDoes, callDoes, dayDoes, doesOf}
+use Rattle.night.specs.Lines.{Did, quiet, stops, houseDoes, given, openStage, balancesGiven, linesGiven, openDoes, givenDoes, memberDoes, dayDoes, doesOf}
 use Rattle.night.specs.Stands.{Sized, Giving}
-use Rattle.dayfile.specs.Entries.{mostLines, DayLine, Entry}
+use Rattle.dayfile.specs.Entries.{mostLines, Entry}
 use Rattle.night.specs.Stages.{told, isOver}
 use Rattle.sheet.specs.Sheet.{Night, entryIn, after, stopped, stepOf, morning}
 use Rattle.days.specs.Days.{Begun}
@@ -115,14 +115,7 @@ module _ (n count k : ℕ) (t : Tables) {b l : List ℤ} (g : Gives count k t b 
 
 day-gave : (n : ℕ) (t : Tables) (e : Entry) (b l : List ℤ) → Gave (told (dayDoes n t e .stage)) (dayDoes n t e .after) b l
 day-gave n t (E.opening o) b l = tt
-day-gave n t (E.day d) b l = go d
-  where
-    go : (d : DayLine) → Gave (told (callDoes n t d .stage)) (callDoes n t d .after) b l
-    go (E.pay kind m k q x) = tt
-    go (E.deposit m x) = tt
-    go (E.release m) = tt
-    go (E.group k) = tt
-    go E.resolve = tt
+day-gave n t (E.day d) b l = tt
 day-gave n t E.end b l = tt
 day-gave n t E.bad b l = tt
 

@@ -16,7 +16,8 @@ use Rattle.print.specs.Lines.{textOf}
 use Rattle.cut.specs.Lines.{Line, linesOf}
 use Rattle.cut.specs.Chunks.{runOf}
 use Rattle.night.specs.declared.Stage.the-variants as G
-use Rattle.night.specs.Lines.{refusal, endSays}
+use Rattle.daylines.specs.Calls.{refusal}
+use Rattle.night.specs.Lines.{endSays}
 use Rattle.dayfile.specs.Entries.{mostLines, DayLine, Entry}
 use Rattle.sheet.specs.Sheet.{Night, textsOf, entryIn, stepOf, morning, sheetOf}
 use Rattle.days.specs.Days.{Request, deposits, submits, releases, groups, resolves, afterAll, made}

@@ -7,12 +7,10 @@ use Prim.Native.Nat.{ℕ, zero, suc, _+_, _-_, _≤_, _<_}
 use lib.Dec.{leb, ltb}
 use lib.ListN.{length, take, drop, set, length-append, length-drop, drop-of-length-le}
 use lib.Seq.{take-at, length-take-le, sets-eq, sets}
-use borrow.Author.Tests.{lt-ltb, le-ltb, ltb-true, ltb-false, le-leb, lt-leb, leb-true, leb-false}
+use borrow.Author.Tests.{lt-ltb, le-ltb, le-leb, lt-leb, leb-true, leb-false}
 use borrow.Rule.Slice.PartMut.{putMid}
-use Rattle.answers.specs.declared.Refusal.{Refusal}
 use Rattle.numbers.proofs.Reading.{rest-all}
-use Rattle.print.specs.declared.Put.{Put}
-use Rattle.print.specs.declared.Put.the-variants.{Wrote, Refused}
+use Rattle.print.specs.declared.Put.the-variants.{Wrote}
 use Rattle.print.specs.declared.Row.{Row}
 use Rattle.print.specs.declared.Says.{Says}
 use Rattle.print.specs.Lines.{Parts, tabbed, lineText, textOf, partsIn, partsOf}
@@ -40,20 +38,23 @@ module _ (p : Parts) (l l₁ l₂ l₃ l₄ : List ℕ) (a b c e : ℕ) where
       let d = behind l ((p .start ++ p .word) ++ tabbed (p .numbers)) l₃ (10 ∷ []) l₄ c e (n .0) (n .1) ee te in
       d
 
--- a row into the rest
-pub full-put : (out text : List ℕ) → length out < leastRoom → (noRoom ≡ putOf (length out) text) × (out ≡ afterPut (length out) out 0 text)
-full-put out text h = rw (lt-ltb (length out) leastRoom h) (refl, refl)
+-- there is room,
+pub room-is : (out : List ℕ) (at : ℕ) → hasRoom (length out) at ≡ true → at + leastRoom ≤ length out
+room-is out at e = leb-true (at + leastRoom) (length out) e
 
+-- and so it is in the rest
+pub rest-room : (out : List ℕ) (at : ℕ) → at + leastRoom ≤ length out → leastRoom ≤ length (take (length out - at) (drop at out))
+rest-room out at h = rw (rest-all at out) (omega (arith, length-drop at out))
+
+-- a row into the rest
 module _ (r : Row) (s : Says) (e : partsIn r ≡ partsOf s) (out : List ℕ) (h : leastRoom ≤ length out) where
   pub row-room : Ranges s → (length (lineText (partsIn r)) ≤ length out) × AllShort (partsIn r .numbers)
   row-room g =
       let m : length (lineText (partsIn r)) ≡ length (textOf s) = ap (λ (p : Parts). length (lineText p)) e in
       (omega (arith, text-le s g), subst (λ (p : Parts). AllShort (p .numbers)) (sym e) (all-short s g))
 
-  pub row-put : (out₁ : List ℕ) (k : ℕ) → k ≡ length (lineText (partsIn r)) → out₁ ≡ sets out 0 (lineText (partsIn r))
-      → (Wrote k ≡ putOf (length out) (textOf s)) × (out₁ ≡ afterPut (length out) out 0 (textOf s))
-  row-put out₁ k a b =
-      rw (le-ltb (length out) leastRoom h) (ap Wrote (a ∙ ap (λ (p : Parts). length (lineText p)) e), b ∙ ap (λ (p : Parts). sets out 0 (lineText p)) e)
+  pub row-put : (out₁ : List ℕ) (k : ℕ) → k ≡ length (lineText (partsIn r)) → out₁ ≡ sets out 0 (lineText (partsIn r)) → (k ≡ length (textOf s)) × (out₁ ≡ sets out 0 (textOf s))
+  row-put out₁ k a b = (a ∙ ap (λ (p : Parts). length (lineText p)) e, b ∙ ap (λ (p : Parts). sets out 0 (lineText p)) e)
 
 sets-cons : (x : ℕ) (l vs : List ℕ) (i : ℕ) → sets (x ∷ l) (suc i) vs ≡ x ∷ sets l i vs
 sets-cons x l [] i = refl
@@ -71,32 +72,22 @@ module _ (out : List ℕ) (at : ℕ) (h : at ≤ length out) where
       let e : length (drop at out) ≤ length out - at = omega (arith, length-drop at out) in
       ap (λ (r : List ℕ). take at out ++ (t ++ r)) (drop-of-length-le (drop at out) e) ∙ ap (λ (r : List ℕ). take at out ++ r) (append-nil t)
 
-  rest-by : (text : List ℕ) (p : Bool) → take at out ++ cond p (drop at out) (sets (drop at out) 0 text) ≡ cond p out (sets out at text)
-  rest-by text true = sets-rest out [] at h
-  rest-by text false = sets-rest out text at h
+  pub rest-put : (t text : List ℕ) → t ≡ sets (take (length out - at) (drop at out)) 0 text → putMid at (length out - at) out t ≡ sets out at text
+  rest-put t text b = rest-back t ∙ ap (λ (l : List ℕ). take at out ++ l) (b ∙ rw (rest-all at out)) ∙ sets-rest out text at h
 
-  pub rest-put : (r : Put) (t text : List ℕ) → r ≡ putOf (length (take (length out - at) (drop at out))) text
-      → t ≡ afterPut (length (take (length out - at) (drop at out))) (take (length out - at) (drop at out)) 0 text
-      → (r ≡ putOf (length out - at) text) × (putMid at (length out - at) out t ≡ afterPut (length out - at) out at text)
-  rest-put r t text a b =
-      let n : length (take (length out - at) (drop at out)) ≡ length out - at = ap length (rest-all at out) ∙ length-drop at out in
-      let u : t ≡ afterPut (length out - at) (drop at out) 0 text = b ∙ rw (n, rest-all at out) in
-      (a ∙ ap (λ (k : ℕ). putOf k text) n, rest-back t ∙ rw u (rest-by text (ltb (length out - at) leastRoom)))
+  -- the answer where there is no room,
+  pub full-put : (text : List ℕ) → hasRoom (length out) at ≡ false → (noRoom ≡ putOf (length out - at) text) × (out ≡ afterPut (length out - at) out at text)
+  full-put text e =
+      let l : length out - at < leastRoom = omega (arith, leb-false (at + leastRoom) (length out) e) in
+      rw (lt-ltb (length out - at) leastRoom l) (refl, refl)
 
--- what the answer tells
-put-by : (room : ℕ) (text : List ℕ) (P : Put → Type 0) → (room < leastRoom → P noRoom) → (leastRoom ≤ room → P (Wrote (length text))) → P (putOf room text)
-put-by room text P f g = go (ltb room leastRoom) refl
-  where
-    go : (b : Bool) → ltb room leastRoom ≡ b → P (cond b noRoom (Wrote (length text)))
-    go true e = f (ltb-true room leastRoom e)
-    go false e = g (ltb-false room leastRoom e)
-
-wrote-length : (m n : ℕ) → Wrote m ≡ Wrote n → n ≡ m
-wrote-length m n e = cc
-
--- full: there was too little room
-pub put-refused : (room : ℕ) (text : List ℕ) (r : Refusal) → putOf room text ≡ Refused r → room < leastRoom
-put-refused room text r = put-by room text (λ p. p ≡ Refused r → room < leastRoom) (λ h e. h) (λ h e. let z : _≡_ {A = ℕ} 0 1 = cc in absurd (omega arith))
+  -- and where there is
+  pub room-put : (text out₁ : List ℕ) (e : ℕ) → hasRoom (length out) at ≡ true → e ≡ at + length text → out₁ ≡ sets out at text
+      → (Wrote (e - at) ≡ putOf (length out - at) text) × (out₁ ≡ afterPut (length out - at) out at text)
+  room-put text out₁ e r a b =
+      let l : leastRoom ≤ length out - at = omega (arith, leb-true (at + leastRoom) (length out) r) in
+      let n : e - at ≡ length text = omega arith in
+      rw (le-ltb (length out - at) leastRoom l) (ap Wrote n, b)
 
 -- the code is 13 exactly where less than 80 bytes are left, and else 0
 pub put-code : (room : ℕ) (text : List ℕ) → putCode (putOf room text) ≡ cond (ltb room leastRoom) 13 0
@@ -106,29 +97,20 @@ put-code room text = go (ltb room leastRoom)
     go true = refl
     go false = refl
 
--- written: there was room, and n is the length of the text
-pub put-wrote : (room n : ℕ) (text : List ℕ) → putOf room text ≡ Wrote n → (leastRoom ≤ room) × (n ≡ length text)
-put-wrote room n text = put-by room text (λ r. r ≡ Wrote n → (leastRoom ≤ room) × (n ≡ length text))
-    (λ h e. let z : _≡_ {A = ℕ} 0 1 = cc in absurd (omega arith))
-    (λ h e. (h, wrote-length (length text) n e))
-
 -- without room the output is as it was
 pub full-after : (out text : List ℕ) (at room : ℕ) → room < leastRoom → afterPut room out at text ≡ out
 full-after out text at room h = rw (lt-ltb room leastRoom h)
 
--- a line that was written stands behind what was used, and there is room for it
-module _ (s : Says) (g : Ranges s) (out : List ℕ) (at : ℕ) (h : at ≤ length out) (l : leastRoom ≤ length out - at) where
+-- a line that was written where there is room stands behind what was used
+module _ (s : Says) (g : Ranges s) (out : List ℕ) (at : ℕ) (h : at + leastRoom ≤ length out) where
   pub wrote-within : at + length (textOf s) ≤ length out
   wrote-within = omega (arith, text-le s g)
 
-  pub wrote-after : afterPut (length out - at) out at (textOf s) ≡ sets out at (textOf s)
-  wrote-after = rw (le-ltb (length out - at) leastRoom l)
-
-  pub wrote-used : take (at + length (textOf s)) (afterPut (length out - at) out at (textOf s)) ≡ take at out ++ textOf s
+  pub wrote-used : take (at + length (textOf s)) (sets out at (textOf s)) ≡ take at out ++ textOf s
   wrote-used =
       let t : List ℕ = textOf s in
-      let n : length (take at out) ≡ at = length-take-le at out h in
-      rw (wrote-after, sets-eq t out at wrote-within)
+      let n : length (take at out) ≡ at = length-take-le at out (omega arith) in
+      rw (sets-eq t out at wrote-within)
       (take-at (take at out ++ t) (drop (at + length t) out) (at + length t) (simp length-append (omega arith)))
 
 -- 80 bytes are left behind what is used

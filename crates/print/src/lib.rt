@@ -9,7 +9,7 @@ ghost use lib.ListN.{length};
 ghost use lib.Seq.{sets};
 ghost use Rattle.numbers.specs.Numbers.{mostDigits};
 ghost use Rattle.print.specs.Lines.{startText, shownIf, partsOf, partsIn, tabbed, lineText, textOf};
-ghost use Rattle.print.specs.Room.{hasRoom, putOf, afterPut, Ranges, AllShort};
+ghost use Rattle.print.specs.Room.{leastRoom, hasRoom, putOf, afterPut, Ranges, AllShort};
 
 // The bytes that must be left for a line.
 const LEAST_ROOM: usize = 80;
@@ -72,30 +72,39 @@ pub fn has_room(used: usize, n: usize) -> bool
     n - used >= LEAST_ROOM
 }
 
-// Writes a line of the sheet into the output, of which at bytes are used.
+// Writes a line of the sheet into the output, of which at bytes are used, or refuses it where there is no room.
 pub fn write_line(out: &mut [u8], at: usize, s: Says) -> Put
     requires { ⌜ (at ≤ length (now out)) × Ranges s ⌝ }
     ensures { λ r. ⌜ r ≡ putOf (length (now (out .entry)) - at) (textOf s) ⌝ }
     ensures { λ r. ⌜ now (out .exit) ≡ afterPut (length (now (out .entry)) - at) (now (out .entry)) at (textOf s) ⌝ }
 {
-    put_line(&mut out[at..], s)
-}
-
-// The same at the beginning of the lent rest.
-fn put_line(out: &mut [u8], s: Says) -> Put
-    requires { ⌜ Ranges s ⌝ }
-    ensures { λ r. ⌜ r ≡ putOf (length (now (out .entry))) (textOf s) ⌝ }
-    ensures { λ r. ⌜ now (out .exit) ≡ afterPut (length (now (out .entry))) (now (out .entry)) 0 (textOf s) ⌝ }
-{
-    if out.len() < LEAST_ROOM {
+    if !has_room(at, out.len()) {
         return Put::Refused(Refusal::Room);
     }
+    let e = put_line(out, at, s);
+    Put::Wrote(e - at)
+}
+
+// Writes a line where there is room, and gives the place behind it.
+pub fn put_line(out: &mut [u8], at: usize, s: Says) -> usize
+    requires { ⌜ (at + leastRoom ≤ length (now out)) × Ranges s ⌝ }
+    ensures { λ r. ⌜ (r ≡ at + length (textOf s)) × (now (out .exit) ≡ sets (now (out .entry)) at (textOf s)) ⌝ }
+{
+    let n = lay_line(&mut out[at..], s);
+    at + n
+}
+
+// The same at the beginning of the lent rest; gives how many bytes it has.
+fn lay_line(out: &mut [u8], s: Says) -> usize
+    requires { ⌜ (leastRoom ≤ length (now out)) × Ranges s ⌝ }
+    ensures { λ r. ⌜ (r ≡ length (textOf s)) × (now (out .exit) ≡ sets (now (out .entry)) 0 (textOf s)) ⌝ }
+{
     let r = row_of(s);
     let n = r.letters;
     let m = r.many;
     let word = r.word;
     let zs = r.numbers;
-    Put::Wrote(put_text(out, r.is_numbered, r.line, &word[..n], &zs[..m]))
+    put_text(out, r.is_numbered, r.line, &word[..n], &zs[..m])
 }
 
 // The parts of a line.

@@ -18,7 +18,8 @@ use Rattle.night.specs.declared.Stage.the-variants as G
 use Rattle.night.specs.declared.Does.{Does}
 use Rattle.tables.specs.Sizes.{lastNumber}
 use Rattle.tables.specs.Layout.{Tables}
-use Rattle.night.specs.Lines.{saidIn, did, refusal, doesOf}
+use Rattle.daylines.specs.Calls.{refusal}
+use Rattle.night.specs.Lines.{saidIn, did, doesOf}
 use Rattle.night.specs.Stands.{Stands}
 use Rattle.night.proofs.Kept.{Kept, does-kept}
 use Rattle.sheet.specs.declared.State.{State}

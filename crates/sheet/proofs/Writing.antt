@@ -4,15 +4,11 @@ use mathlib.Core.List.{List, _++_}
 use Prim.Native.Nat.{ℕ, _+_, _-_, _≤_}
 use native.Mathlib.Omega.{arith}
 use lib.ListN.{length, take, drop, length-append}
-use lib.Seq.{sets, sets-eq, take-at, drop-at, drop-drop, length-take-le}
-use Rattle.answers.specs.declared.Refusal.{Refusal}
-use Rattle.tables.specs.Sizes.{members}
-use Rattle.print.specs.declared.Put.{Put}
-use Rattle.print.specs.declared.Put.the-variants.{Wrote, Refused}
+use lib.Seq.{sets, sets-eq, drop-at, drop-drop, length-take-le}
 use Rattle.print.specs.declared.Says.{Says}
 use Rattle.print.specs.Lines.{textOf}
-use Rattle.print.specs.Room.{leastRoom, putOf, afterPut, Ranges}
-use Rattle.print.proofs.Room.{put-refused, put-wrote, wrote-within, wrote-after, wrote-used}
+use Rattle.print.specs.Room.{leastRoom, Ranges}
+use Rattle.print.proofs.Room.{wrote-within, wrote-used}
 use Rattle.night.specs.declared.Said.{Said}
 use Rattle.night.specs.declared.Said.the-variants as D
 use Rattle.night.specs.Lines.{saidIn}
@@ -24,23 +20,12 @@ sets-behind out at v l =
     let n : length (take at out) ≡ at = length-take-le at out (omega arith) in
     rw (sets-eq v out at l) (drop-at (take at out ++ v) (drop (at + length v) out) (at + length v) (simp length-append (omega arith)))
 
-module _ (s : Says) (out : List ℕ) (used : ℕ) (room : used + leastRoom ≤ length out) (p : Put) (e : p ≡ putOf (length out - used) (textOf s)) where
-  -- there is room,
-  pub never-full : (r : Refusal) → p ≡ Refused r → ⊥
-  never-full r f = let l = put-refused (length out - used) (textOf s) r (sym e ∙ f) in omega arith
-
-  -- and the line stands behind what was used
-  pub put-behind : (m : ℕ) (out₁ : List ℕ) → Ranges s → p ≡ Wrote m → out₁ ≡ afterPut (length out - used) out used (textOf s)
-      → (take (used + m) out₁ ≡ take used out ++ textOf s) × (used + m ≤ length out) × Grown used (used + m) out out₁
-  put-behind m out₁ g f q =
-      let w = put-wrote (length out - used) m (textOf s) (sym e ∙ f) in
-      let h : used ≤ length out = omega arith in
-      let i = wrote-within s g out used h (w .0) in (
-        rw (w .1, q) (wrote-used s g out used h (w .0)),
-        rw (w .1) i,
-        rw (w .1, q, wrote-after s g out used h (w .0))
-            (record { on = omega arith; rest = sets-behind out used (textOf s) i }),
-      )
+-- a line that was written stands behind what was used
+pub put-behind : (s : Says) (out : List ℕ) (used : ℕ) → used + leastRoom ≤ length out → Ranges s → (r : ℕ) (out₁ : List ℕ) → r ≡ used + length (textOf s) → out₁ ≡ sets out used (textOf s)
+    → (take r out₁ ≡ take used out ++ textOf s) × (r ≤ length out) × Grown used r out out₁
+put-behind s out used room g r out₁ e q =
+    let w = wrote-within s g out used room in
+    rw (e, q) (wrote-used s g out used room, w, record { on = omega arith; rest = sets-behind out used (textOf s) w })
 
 -- nothing is written,
 pub grown-none : (u : ℕ) (out : List ℕ) → Grown u u out out

@@ -16,7 +16,8 @@ use Rattle.print.specs.declared.Says.{Says}
 use Rattle.print.specs.Lines.{textOf}
 use Rattle.night.specs.declared.Stage.{Stage}
 use Rattle.night.specs.declared.Stage.the-variants as G
-use Rattle.night.specs.Lines.{Did, refusal, doesOf}
+use Rattle.daylines.specs.Calls.{refusal}
+use Rattle.night.specs.Lines.{Did, doesOf}
 use Rattle.night.specs.Stages.{isOver, restSays, told}
 
 -- lines read so far, the stage, the tables, and the sheet so far

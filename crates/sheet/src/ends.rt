@@ -1,6 +1,5 @@
 // The lines of the end, one at a time.
 use crate::State;
-use crate::out::put;
 ghost use mathlib.Core.Path.{_≡_};
 ghost use mathlib.Core.Bool.{true};
 ghost use Prim.Native.Nat.{ℕ, _+_, _≤_, _<_};
@@ -20,7 +19,7 @@ pub fn end_on(accounts: &[i64], counters: &[u32], pays: &[u64], out: &mut [u8], 
     let stage = s.stage;
     let k = night::ending_at(stage);
     let l = night::end_line(accounts, counters, pays, k);
-    let used = put(out, s.used, l);
+    let used = print::put_line(out, s.used, l);
     let next = night::end_next(counters, k);
     let cut = s.cut;
     State {

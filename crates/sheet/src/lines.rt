@@ -1,7 +1,6 @@
 // A line that is ended: it is read and answered, or refused as one too many.
 use crate::State;
 use crate::between;
-use crate::out::put;
 use crate::out::tell;
 use cut::Cut;
 use dayfile::Entry;
@@ -18,7 +17,8 @@ ghost use Rattle.print.specs.Lines.{textOf};
 ghost use Rattle.print.specs.Room.{leastRoom};
 ghost use Rattle.night.specs.declared.Stage.the-variants.{Over};
 ghost use Rattle.tables.specs.Layout.{tables};
-ghost use Rattle.night.specs.Lines.{refusal, doesOf};
+ghost use Rattle.daylines.specs.Calls.{refusal};
+ghost use Rattle.night.specs.Lines.{doesOf};
 ghost use Rattle.dayfile.specs.Entries.{mostLines, mostCounts};
 ghost use Rattle.dayfile.specs.Reading.{meant, Tells, Read};
 ghost use Rattle.night.specs.Stages.{isOver};
@@ -87,6 +87,6 @@ pub fn stop(out: &mut [u8], s: State, n: u64) -> State
     requires { ⌜ (n ≤ mostLines + 1) × (s .used + leastRoom ≤ length (now out)) ⌝ }
     ensures { λ r. ⌜ (r ≡ stateAt (s .lines) Over (r .used)) × (take (r .used) (now (out .exit)) ≡ take (s .used) (now (out .entry)) ++ textOf (refusal n Line)) × (r .used ≤ length (now (out .entry))) × Grown (s .used) (r .used) (now (out .entry)) (now (out .exit)) ⌝ }
 {
-    let used = put(out, s.used, Says::Refused(n, 12));
+    let used = print::put_line(out, s.used, Says::Refused(n, 12));
     between(s.lines, Stage::Over, used)
 }

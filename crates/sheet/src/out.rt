@@ -1,13 +1,10 @@
-// The lent output: what is said goes behind what is used.
+// The lent output: what a line says goes behind what is used.
 use night::Said;
-use print::Put;
-use print::Says;
 ghost use mathlib.Core.Path.{_≡_};
 ghost use mathlib.Core.List.{_++_};
 ghost use Prim.Native.Nat.{_+_, _≤_};
 ghost use lib.ListN.{length, take};
-ghost use Rattle.print.specs.Lines.{textOf};
-ghost use Rattle.print.specs.Room.{leastRoom, Ranges};
+ghost use Rattle.print.specs.Room.{leastRoom};
 ghost use Rattle.night.specs.Lines.{saidIn};
 ghost use Rattle.night.specs.Stands.{SaidRanges};
 ghost use Rattle.sheet.specs.Sheet.{textsOf};
@@ -20,17 +17,6 @@ pub fn tell(out: &mut [u8], used: usize, said: Said) -> usize
 {
     match said {
         Said::Nothing => used,
-        Said::One(s) => put(out, used, s),
+        Said::One(s) => print::put_line(out, used, s),
     }
-}
-
-// A line goes behind what is used, and gives what is used then.
-pub fn put(out: &mut [u8], used: usize, s: Says) -> usize
-    requires { ⌜ (used + leastRoom ≤ length (now out)) × Ranges s ⌝ }
-    ensures { λ r. ⌜ (take r (now (out .exit)) ≡ take used (now (out .entry)) ++ textOf s) × (r ≤ length (now (out .entry))) × Grown used r (now (out .entry)) (now (out .exit)) ⌝ }
-{
-    let Put::Wrote(m) = print::write_line(out, used, s) else {
-        return used;
-    };
-    used + m
 }

@@ -1,61 +1,43 @@
--- `print::put_line` meets its contract. The room is judged first, and then the row is written.
+-- `print::put_line` meets its contract. What is written into the rest is written into the whole.
+use mathlib.Core.Path.{ap}
+use Prim.Native.Nat.{ℕ, _+_}
 use native.Mathlib.Omega.{arith}
-use lib.Seq.{length-take-le}
-use mathlib.Core.Path.{sym}
 use borrow.Author.Needs.{needs}
+use lib.Seq.{length-take-le}
+use lib.ListN.{length-drop}
 use Rattle.print.specs.Lines.{textOf}
-use Rattle.print.proofs.Room.{full-put, row-room, row-put}
+use Rattle.print.proofs.Room.{rest-put, rest-room, wrote-within}
 use Rattle.print.proofs.put_line.Statement.{statement}
 use Rattle.print.proofs.put_line.Tie as tie
 
-returns : tie.Need-returns
-returns c = full-put (c .before .before .args .out .now) (textOf (c .before .before .args .s)) (omega arith)
+sub-lay-line : tie.Need-sub-lay-line
+sub-lay-line c = search needs
 
-row-of-requires : tie.Need-row-of-requires
-row-of-requires c κs = search needs
+part-lay-line-start : tie.Need-part-lay-line-start
+part-lay-line-start c = search needs
 
-array-share-prefix-word : tie.Need-array-share-prefix-word
-array-share-prefix-word c = c .before .before .before .row-of .ensures .1
+part-lay-line-end : tie.Need-part-lay-line-end
+part-lay-line-end c = search needs
 
-slice-aggregate-put-text : tie.Need-slice-aggregate-put-text
-slice-aggregate-put-text c = let r = c .before .before .before .before .row-of in sym (length-take-le (r .result .letters) (r .result .word) (r .ensures .1))
+lay-line-requires : tie.Need-lay-line-requires
+lay-line-requires c κs = let s = c .before .before in (rest-room (s .args .out .now) (s .args .at) (s .pre .0), s .pre .1)
 
-array-share-prefix-zs : tie.Need-array-share-prefix-zs
-array-share-prefix-zs c = c .before .before .before .before .row-of .ensures .2
-
-slice-aggregate-put-text-2 : tie.Need-slice-aggregate-put-text-2
-slice-aggregate-put-text-2 c =
-    let r = c .before .before .before .before .before .row-of in sym (length-take-le (r .result .many) (r .result .numbers) (r .ensures .2))
-
-put-text-requires : tie.Need-put-text-requires
-put-text-requires c κs =
-    let x = c .before .before .before .before .before in
-    let r = x .row-of in
-    row-room (r .result) (x .before .before .before .args .s) (r .ensures .0) (x .before .before .before .args .out .now) (omega arith)
-    (x .before .before .before .pre)
+add-result : tie.Need-add-result
+add-result c =
+    let n = c .before .before in
+    let s = n .before .before .before in
+    omega (arith, n .lay-line .ensures .0, wrote-within (s .args .s) (s .pre .1) (s .args .out .now) (s .args .at) (s .pre .0), s .good)
 
 same-length : tie.Need-same-length
 same-length c = search needs
 
-returns-2 : tie.Need-returns-2
-returns-2 c =
-    let x = c .before .before in
-    let y = x .before .before .before .before .before in
-    let r = y .before .row-of in
-    let p = x .put-text in
-    row-put (r .result) (y .before .before .before .before .args .s) (r .ensures .0) (y .before .before .before .before .args .out .now) (omega arith)
-    (p .last .0) (p .result) (p .ensures .0) (p .ensures .1)
+returns : tie.Need-returns
+returns c =
+    let n = c .before .before in
+    let s = n .before .before .before in
+    (ap (λ (k : ℕ). s .args .at + k) (n .lay-line .ensures .0), rest-put (s .args .out .now) (s .args .at) (omega arith) (n .lay-line .last .0) (textOf (s .args .s)) (n .lay-line .ensures .1))
 
 pub put-line-spec : {M : Type 1} → statement M
 put-line-spec =
     tie.close
-    (tie.spec
-    returns
-    row-of-requires
-    array-share-prefix-word
-    slice-aggregate-put-text
-    array-share-prefix-zs
-    slice-aggregate-put-text-2
-    put-text-requires
-    same-length
-    returns-2)
+    (tie.spec sub-lay-line part-lay-line-start part-lay-line-end lay-line-requires add-result same-length returns)

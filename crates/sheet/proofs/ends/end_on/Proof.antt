@@ -1,6 +1,10 @@
 -- `sheet::ends::end_on` meets its contract: no loop.
 use Rattle.sheet.proofs.Endings.{telling, end-said, end-fewer, end-stands}
+use Rattle.print.specs.Room.{Ranges}
+use Rattle.sheet.proofs.Writing.{put-behind}
+use Rattle.sheet.specs.Feeding.{Fit}
 use Rattle.sheet.specs.declared.State.{State}
+use lib.ListN.{length}
 use Rattle.night.proofs.Kept.{end-ranges}
 use Rattle.tables.specs.Layout.{Tables, tables}
 use native.Mathlib.Omega.{arith}
@@ -17,18 +21,20 @@ end-line-requires c κs =
     let s = c .before .before .before .before in
     telling (s .args .s) (tables (s .args .accounts .now) (s .args .counters .now) (s .args .pays .now)) (c .ending-at .result) (c .ending-at .ensures) (s .pre .0)
 
-put-requires : tie.Need-put-requires
-put-requires c κs =
-    let s = c .before .before .before .before .before .before in
+put-line-requires : tie.Need-put-line-requires
+put-line-requires c κs =
+    let k = c .before .before in
+    let s = k .before .before .before .before in
     let t : Tables = tables (s .args .accounts .now) (s .args .counters .now) (s .args .pays .now) in
-    let k = c .before .before .ending-at in
-    (s .pre .2, rw (c .before .end-line .ensures) (end-ranges t (telling (s .args .s) t (k .result) (k .ensures) (s .pre .0) .holds) (k .result)))
+    let h = telling (s .args .s) t (k .ending-at .result) (k .ending-at .ensures) (s .pre .0) in
+    (s .pre .2, rw (c .before .end-line .ensures) (end-ranges t (h .holds) (k .ending-at .result)))
 
 end-next-requires : tie.Need-end-next-requires
 end-next-requires c κs =
-    let s = c .before .before .before .before .before .before .before .before .before in
-    let k = c .before .before .before .before .before .ending-at in
-    let h = telling (s .args .s) (tables (s .args .accounts .now) (s .args .counters .now) (s .args .pays .now)) (k .result) (k .ensures) (s .pre .0) in
+    let k = c .before .before .before .before .before in
+    let s = k .before .before .before .before in
+    let t : Tables = tables (s .args .accounts .now) (s .args .counters .now) (s .args .pays .now) in
+    let h = telling (s .args .s) t (k .ending-at .result) (k .ending-at .ensures) (s .pre .0) in
     (omega (arith, h .holds .counters .broad), omega (arith, h .told, h .holds .counters .few))
 
 same-length : tie.Need-same-length
@@ -36,15 +42,20 @@ same-length c = search needs
 
 returns : tie.Need-returns
 returns c =
-    let s = c .before .before .before .before .before .before .before .before .before .before .before in
+    let p = c .before .before .before .before in
+    let l = p .before .before .end-line in
+    let k = p .before .before .before .ending-at in
+    let s = p .before .before .before .before .before .before .before in
     let t : Tables = tables (s .args .accounts .now) (s .args .counters .now) (s .args .pays .now) in
-    let k = c .before .before .before .before .before .before .before .ending-at in
     let h = telling (s .args .s) t (k .result) (k .ensures) (s .pre .0) in
-    let p = c .before .before .before .before .put in
-    let r : State = record { lines = s .args .s .lines; stage = c .before .end-next .result; used = p .result; cut = s .args .s .cut } in
-    let g = c .before .end-next .ensures in (
-      end-said (s .args .s) t (k .result) (k .ensures) (s .args .out .now) _ r _ h (c .before .before .before .before .before .before .end-line .ensures) refl g (p .ensures .0),
-      (record { few = s .pre .0 .few; room = p .ensures .1; held = s .pre .0 .held; stands = end-stands (s .args .s) t (k .result) (k .ensures) h r g }, refl, end-fewer (s .args .s) t (k .result) (k .ensures) h r g, p .ensures .2),
+    let ok : Ranges (l .result) = rw (l .ensures) (end-ranges t (h .holds) (k .result)) in
+    let w = put-behind (l .result) (s .args .out .now) (s .args .s .used) (s .pre .2) ok (p .put-line .result) _ (p .put-line .ensures .0) (p .put-line .ensures .1) in
+    let r : State = record { lines = s .args .s .lines; stage = c .before .end-next .result; used = p .put-line .result; cut = s .args .s .cut } in
+    let g = c .before .end-next .ensures in
+    let fit : Fit r t (length (s .args .out .now)) =
+    record { few = s .pre .0 .few; room = w .1; held = s .pre .0 .held; stands = end-stands (s .args .s) t (k .result) (k .ensures) h r g } in (
+      end-said (s .args .s) t (k .result) (k .ensures) (s .args .out .now) _ r (l .result) h (l .ensures) refl g (w .0),
+      (fit, refl, end-fewer (s .args .s) t (k .result) (k .ensures) h r g, w .2),
     )
 
 pub end-on-spec : {M : Type 1} → statement M
@@ -53,7 +64,7 @@ end-on-spec =
     (tie.spec
     ending-at-requires
     end-line-requires
-    put-requires
+    put-line-requires
     end-next-requires
     same-length
     returns)

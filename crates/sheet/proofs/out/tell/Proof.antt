@@ -1,6 +1,8 @@
 -- `sheet::out::tell` meets its contract: no loop.
-use Rattle.sheet.proofs.Writing.{said-ranges, grown-none}
+use Rattle.sheet.proofs.Writing.{said-ranges, put-behind, grown-none}
 use lib.ListN.{take}
+use Rattle.print.specs.declared.Says.{Says}
+use Rattle.print.specs.Lines.{textOf}
 use mathlib.Core.List.{append-nil}
 use mathlib.Core.Path.{sym}
 use native.Mathlib.Omega.{arith}
@@ -14,8 +16,8 @@ enum-told c = search needs
 enum-known-said : tie.Need-enum-known-said
 enum-known-said c = search needs
 
-put-requires : tie.Need-put-requires
-put-requires c κs =
+put-line-requires : tie.Need-put-line-requires
+put-line-requires c κs =
     let g = c .before .before in
     let s = g .before .before .before in
     (s .pre .0, said-ranges (s .args .said) _ (g .said .given .1) (s .pre .1))
@@ -31,8 +33,13 @@ same-length c = search needs
 returns-2 : tie.Need-returns-2
 returns-2 c =
     let p = c .before .before in
-    rw (p .before .before .before .said .given .1, append-nil) (p .put .ensures)
+    let g = p .before .before .before in
+    let s = g .before .before .before in
+    let l : Says = g .said .given .0 .0 in
+    let w = put-behind l (s .args .out .now) (s .args .used) (s .pre .0) (said-ranges (s .args .said) l (g .said .given .1) (s .pre .1))
+    (p .put-line .result) _ (p .put-line .ensures .0) (p .put-line .ensures .1) in
+    rw (g .said .given .1, append-nil (textOf l)) w
 
 pub tell-spec : {M : Type 1} → statement M
 tell-spec =
-    tie.close (tie.spec enum-told enum-known-said put-requires returns same-length returns-2)
+    tie.close (tie.spec enum-told enum-known-said put-line-requires returns same-length returns-2)

@@ -32,8 +32,7 @@ use Rattle.answers.specs.declared.Resolution.{Resolution}
 use Rattle.answers.specs.declared.Resolved.{Resolved}
 use Rattle.answers.specs.declared.Resolved.the-variants.{Done, Refused}
 use Rattle.answers.proofs.Outcomes.{held-fine, held-bad}
-use Rattle.night.specs.declared.Stage.the-variants as G
-use Rattle.night.specs.Lines.{says, mostCount, least, resolutionSays, resolveDoes}
+use Rattle.daylines.specs.Calls.{mostCount, least, resolutionSays, resolveDoes}
 
 -- ---- counts in 16 bits
 
@@ -95,15 +94,15 @@ number-named n H z = go (eqb (sum n (waits H)) 0) (eqb (sum n z) 0) (eqb (sum n 
 
 -- an accepted resolution says and leaves what its line does
 pub resolve-line : (t : Tables) (n : ℕ) (k : List ℕ) → Holds t → length k ≡ membersIn t → {x : Resolution} {l : List ℕ} {W : Tables} → outcome (Done x, l) W ≡ held (resolveAct k) t
-    → says (resolutionSays n x) G.Day W ≡ resolveDoes n t
+    → outcome (resolutionSays n x) W ≡ resolveDoes n t
 unfolding resolveAct
 resolve-line t n k h e {x} {l} {W} o =
     let d : outcome (Done x, l) W ≡ resolveAct k .does t = o ∙ held-fine (resolveAct k) t (rw (eq-eqb (length k) (membersIn t) e)) in
     let a : Done x ≡ Done (told (membersIn t) (houseIn t) (listed (largestIn t))) = ap (λ (u : Outcome (Resolved × List ℕ)). u .answer .0) d in
     let y : x ≡ told (membersIn t) (houseIn t) (listed (largestIn t)) = done-one a in
     let w = resolve-waiting h in
-    ap (λ (W : Tables). says (resolutionSays n x) G.Day W) (ap (λ (u : Outcome (Resolved × List ℕ)). u .after) d)
-    ∙ ap (λ (x : Resolution). says (resolutionSays n x) G.Day (bookedIn t (listed (largestIn t)))) y
+    ap (λ (W : Tables). outcome (resolutionSays n x) W) (ap (λ (u : Outcome (Resolved × List ℕ)). u .after) d)
+    ∙ ap (λ (x : Resolution). outcome (resolutionSays n x) (bookedIn t (listed (largestIn t)))) y
     ∙ rw (number-named (membersIn t) (houseIn t) (listed (largestIn t)), w .0, w .1)
   where
     done-one : {x y : Resolution} → Done x ≡ Done y → x ≡ y

@@ -1,10 +1,10 @@
--- `night::day::narrow` meets its contract: no loop.
+-- `daylines::narrow` meets its contract: no loop.
 use borrow.Author.Tests.{lt-ltb, le-ltb}
 use native.Mathlib.Omega.{arith}
-use Rattle.night.specs.Lines.{mostCount}
+use Rattle.daylines.specs.Calls.{mostCount}
 use borrow.Author.Needs.{needs}
-use Rattle.night.proofs.day.narrow.Statement.{statement}
-use Rattle.night.proofs.day.narrow.Tie as tie
+use Rattle.daylines.proofs.narrow.Statement.{statement}
+use Rattle.daylines.proofs.narrow.Tie as tie
 
 cast-result : tie.Need-cast-result
 cast-result c = search needs

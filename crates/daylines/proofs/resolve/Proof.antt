@@ -1,12 +1,12 @@
--- `night::day::resolve` meets its contract: no loop.
+-- `daylines::resolve` meets its contract: no loop.
 use lib.ListN.{take, replicate, length-take}
 use native.Mathlib.Omega.{arith}
 use Rattle.tables.specs.Sizes.{members}
 use Rattle.tables.specs.Layout.{tables}
-use Rattle.night.proofs.Settling.{resolve-line, never-refused}
+use Rattle.daylines.proofs.Settling.{resolve-line, never-refused}
 use borrow.Author.Needs.{needs}
-use Rattle.night.proofs.day.resolve.Statement.{statement}
-use Rattle.night.proofs.day.resolve.Tie as tie
+use Rattle.daylines.proofs.resolve.Statement.{statement}
+use Rattle.daylines.proofs.resolve.Tie as tie
 
 slice-read-wide : tie.Need-slice-read-wide
 slice-read-wide c = search needs

@@ -1,10 +1,10 @@
--- `night::day::release` meets its contract: no loop.
+-- `daylines::release` meets its contract: no loop.
 use mathlib.Core.Path.{ap}
 use Rattle.answers.proofs.Outcomes.{answer-is}
-use Rattle.night.specs.Lines.{lineOf, releaseSays}
+use Rattle.daylines.specs.Calls.{lineOf, releaseSays}
 use borrow.Author.Needs.{needs}
-use Rattle.night.proofs.day.release.Statement.{statement}
-use Rattle.night.proofs.day.release.Tie as tie
+use Rattle.daylines.proofs.release.Statement.{statement}
+use Rattle.daylines.proofs.release.Tie as tie
 
 release-requires : tie.Need-release-requires
 release-requires c κs = search needs

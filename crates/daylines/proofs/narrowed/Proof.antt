@@ -1,13 +1,13 @@
--- `night::day::narrowed` meets its contract. The invariant: the first i counts stand in the array, in 16 bits.
-use Rattle.night.proofs.Settling.{least-turn}
-use Rattle.night.specs.Lines.{least}
+-- `daylines::narrowed` meets its contract. The invariant: the first i counts stand in the array, in 16 bits.
+use Rattle.daylines.proofs.Settling.{least-turn}
+use Rattle.daylines.specs.Calls.{least}
 use lib.ListN.{length, getD, length-set}
 use native.Mathlib.Omega.{arith}
 use Rattle.tables.specs.Sizes.{members}
 use Prim.Native.Nat.{ℕ, _-_, _≤_, _<_}
 use mathlib.Core.Path.{_≡_, refl}
-use Rattle.night.proofs.day.narrowed.Statement.{statement}
-use Rattle.night.proofs.day.narrowed.Tie as tie
+use Rattle.daylines.proofs.narrowed.Statement.{statement}
+use Rattle.daylines.proofs.narrowed.Tie as tie
 
 abbrev Inv-loop : tie.InvT-loop
 Inv-loop counts m k₀ i₀ k i = (length k ≡ members) × (i ≤ m) × ((j : ℕ) → j < i → getD k j 0 ≡ least (getD counts j 0))

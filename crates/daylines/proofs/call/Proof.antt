@@ -1,7 +1,7 @@
--- `night::day::call` meets its contract: no loop; each kind of line is a case.
+-- `daylines::call` meets its contract: no loop; each kind of line is a case.
 use borrow.Author.Needs.{needs}
-use Rattle.night.proofs.day.call.Statement.{statement}
-use Rattle.night.proofs.day.call.Tie as tie
+use Rattle.daylines.proofs.call.Statement.{statement}
+use Rattle.daylines.proofs.call.Tie as tie
 
 enum-known-d : tie.Need-enum-known-d
 enum-known-d c = search needs

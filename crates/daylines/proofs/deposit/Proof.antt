@@ -1,11 +1,11 @@
--- `night::day::deposit` meets its contract: no loop.
+-- `daylines::deposit` meets its contract: no loop.
 use mathlib.Core.Path.{ap}
 use Rattle.answers.proofs.Outcomes.{answer-is}
 use Rattle.rule.proofs.Ints.{plain}
-use Rattle.night.specs.Lines.{lineOf, depositSays}
+use Rattle.daylines.specs.Calls.{lineOf, depositSays}
 use borrow.Author.Needs.{needs}
-use Rattle.night.proofs.day.deposit.Statement.{statement}
-use Rattle.night.proofs.day.deposit.Tie as tie
+use Rattle.daylines.proofs.deposit.Statement.{statement}
+use Rattle.daylines.proofs.deposit.Tie as tie
 
 deposit-requires : tie.Need-deposit-requires
 deposit-requires c κs = search needs

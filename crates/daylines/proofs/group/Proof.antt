@@ -1,14 +1,14 @@
--- `night::day::group` meets its contract: no loop.
+-- `daylines::group` meets its contract: no loop.
 use mathlib.Core.Path.{ap, _∙_}
 use lib.ListN.{length-take}
 use native.Mathlib.Omega.{arith}
 use Rattle.tables.specs.Layout.{tables}
 use Rattle.answers.proofs.Outcomes.{answer-is}
-use Rattle.night.specs.Lines.{lineOf, groupSays}
-use Rattle.night.proofs.Settling.{group-narrowed}
+use Rattle.daylines.specs.Calls.{lineOf, groupSays}
+use Rattle.daylines.proofs.Settling.{group-narrowed}
 use borrow.Author.Needs.{needs}
-use Rattle.night.proofs.day.group.Statement.{statement}
-use Rattle.night.proofs.day.group.Tie as tie
+use Rattle.daylines.proofs.group.Statement.{statement}
+use Rattle.daylines.proofs.group.Tie as tie
 
 narrowed-requires : tie.Need-narrowed-requires
 narrowed-requires c κs = search needs

@@ -1,10 +1,10 @@
--- `night::day::pay` meets its contract: no loop.
+-- `daylines::pay` meets its contract: no loop.
 use mathlib.Core.Path.{ap}
 use Rattle.answers.proofs.Outcomes.{answer-is}
-use Rattle.night.specs.Lines.{lineOf, paySays}
+use Rattle.daylines.specs.Calls.{lineOf, paySays}
 use borrow.Author.Needs.{needs}
-use Rattle.night.proofs.day.pay.Statement.{statement}
-use Rattle.night.proofs.day.pay.Tie as tie
+use Rattle.daylines.proofs.pay.Statement.{statement}
+use Rattle.daylines.proofs.pay.Tie as tie
 
 submit-requires : tie.Need-submit-requires
 submit-requires c κs = search needs

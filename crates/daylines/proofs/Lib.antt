@@ -1,0 +1,3 @@
+pub mod Settling
+pub mod Amounts
+pub mod Kept
