@@ -52,7 +52,8 @@ use Rattle.dayfile.specs.Entries.{Entry}
 use Rattle.print.specs.declared.Says.the-variants.{Resolve, Money}
 use Rattle.print.specs.Lines.{textOf}
 use Rattle.night.specs.declared.Stage.the-variants.{Day as ItIsDay}
-use Rattle.night.specs.Lines.{says, refusal, dayDoes}
+use Rattle.daylines.specs.Calls.{refusal}
+use Rattle.night.specs.Lines.{says, dayDoes}
 use Rattle.sheet.specs.Sheet.{textsOf, stepOf, sheetOf}
 use Rattle.nights.specs.Files.{nightAfter, OpenAlike, Whole, LastResolves, EndsIn, balancesIn, creditsIn, membersOf, madeAfter, tablesAfter, closingOf, closingIn}
 use Rattle.nights.specs.Printed.{judgedLine, saysIn, readOff, Reads}

@@ -32,7 +32,8 @@ use Rattle.cut.specs.Lines.{Line, linesOf}
 use Rattle.cut.specs.Chunks.{runOf}
 use Rattle.night.specs.declared.Stage.{Stage}
 use Rattle.night.specs.declared.Stage.the-variants as G
-use Rattle.night.specs.Lines.{Did, says, lineOf, refusal, paySays, depositSays, releaseSays, groupSays, callDoes, dayDoes}
+use Rattle.daylines.specs.Calls.{refusal, paySays, depositSays, releaseSays, groupSays, callDoes}
+use Rattle.night.specs.Lines.{Did, says, lineOf, dayDoes}
 use Rattle.night.specs.Stages.{restSays}
 use Rattle.sheet.specs.Sheet.{Night, textsOf, entryIn, stepOf, morning, closed, sheetOf}
 use Rattle.days.specs.Days.{accepted, made}

@@ -14,7 +14,8 @@ use Rattle.cut.specs.Lines.{Line}
 use Rattle.cut.specs.Chunks.{runOf}
 use Rattle.night.specs.declared.Stage.{Stage}
 use Rattle.night.specs.declared.Stage.the-variants as G
-use Rattle.night.specs.Lines.{callDoes, dayDoes, doesOf}
+use Rattle.daylines.specs.Calls.{callDoes}
+use Rattle.night.specs.Lines.{dayDoes, doesOf}
 use Rattle.night.specs.Stages.{isOver, told}
 use Rattle.sheet.specs.Sheet.{Night, after, stopped, entryIn, stepOf, morning}
 use Rattle.nights.specs.Files.{isEnd, nightAfter, Opens, Whole}

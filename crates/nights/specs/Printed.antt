@@ -24,7 +24,8 @@ use Rattle.dayfile.specs.Entries.{DayLine, Entry}
 use Rattle.print.specs.declared.Says.{Says}
 use Rattle.print.specs.declared.Says.the-variants as S
 use Rattle.cut.specs.Lines.{Line}
-use Rattle.night.specs.Lines.{refusal, resolveSays, dayDoes}
+use Rattle.daylines.specs.Calls.{refusal, resolveSays}
+use Rattle.night.specs.Lines.{dayDoes}
 use Rattle.sheet.specs.Sheet.{Night, entryIn, stepOf}
 
 -- ---- one line
