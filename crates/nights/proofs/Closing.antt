@@ -36,7 +36,9 @@ module _ {W X : Tables} (h : Holds W) (k : Holds X) (e : Equal W X) where
       go false q = let m = ltb-false i (membersIn W) q in k .accounts .no-balance i (omega (arith, e .members)) l ∙ sym (h .accounts .no-balance i (omega arith) l)
 
   says-same : (i : ℕ) → i < membersIn W → balanceSays X i ≡ balanceSays W i
-  says-same i l = ap (λ z. S.Balance (i + 1) z (length (queue X i))) (e .same .balances i l) ∙ ap (λ (q : List ℕ). S.Balance (i + 1) (balanceOf (W .accounts) i) (length q)) (e .same .queues i l)
+  says-same i l =
+      ap (λ z. S.Balance (i + 1) z (length (queue X i))) (e .same .balances i l)
+      ∙ ap (λ (q : List ℕ). S.Balance (i + 1) (balanceOf (W .accounts) i) (length q)) (e .same .queues i l)
     where
       queue : Tables → ℕ → List ℕ
       queue t j = houseIn t .queue j

@@ -84,12 +84,16 @@ module _ {opening day : List Line} {file : List ℕ} (w : Whole opening day file
   file-money =
       let t = tablesAfter opening day in
       let b = textsOf (listing (membersIn t) (balanceSays t)) in
+      let a = file-closes .earlier in
+      let n = membersOf opening in
+      let z : ℤ = money n (entry (balancesIn opening)) +ℤ pos (sum n (deposits (madeAfter opening day))) in
+      let m = day-money begun (requestsAfter opening day) (lines-inside n day (openedBy opening)) in
       record {
-        earlier = file-closes .earlier ++ b;
+        earlier = a ++ b;
         parts =
             file-closes .parts
-            ∙ ap (λ (l : List ℕ). file-closes .earlier ++ l) (closing-money t ∙ ap (λ z. b ++ textOf (S.Money z)) (day-money begun (requestsAfter opening day) (lines-inside (membersOf opening) day (openedBy opening))))
-            ∙ sym (append-assoc (file-closes .earlier) b (textOf (S.Money (money (membersOf opening) (entry (balancesIn opening)) +ℤ pos (sum (membersOf opening) (deposits (madeAfter opening day)))))));
+            ∙ ap (λ (l : List ℕ). a ++ l) (closing-money t ∙ ap (λ x. b ++ textOf (S.Money x)) m)
+            ∙ sym (append-assoc a b (textOf (S.Money z)));
       }
 
 -- ---- the last request is a resolution
@@ -134,7 +138,8 @@ module _ {opening day : List Line} (o : Opens opening) (r : LastResolves opening
   last-ended =
       let c = chain-carries (begun-stands (opens-begun o)) (r .eve) eve-inside in
       let k = resolveAct (replicate (membersOf opening) 0) in
-      let u : called k eveTables ≡ k .does eveTables = called-held k eveTables (holds-state (c .stands)) ∙ held-fine k eveTables (resolves-fine (c .stands) (c .members ∙ begun-members (opens-begun o))) in
+      let f = resolves-fine (c .stands) (c .members ∙ begun-members (opens-begun o)) in
+      let u : called k eveTables ≡ k .does eveTables = called-held k eveTables (holds-state (c .stands)) ∙ held-fine k eveTables f in
       let e : tablesAfter opening day ≡ called k eveTables .after = ap (λ qs. afterAll qs T) (r .parts) ∙ after-join (r .eve) (last ∷ []) T in
       let a : bookedIn eveTables (listed (largestIn eveTables)) ≡ tablesAfter opening day = sym (e ∙ ap (λ (v : Outcome (Resolved × List ℕ)). v .after) u) in
       record {
@@ -167,7 +172,9 @@ module _ {opening opening₁ day day₁ : List Line} {file file₁ : List ℕ} (
 
   -- the closing lines are the same bytes,
   pub closings-equal : closingOf (tablesAfter opening₁ day₁) ≡ closingOf (tablesAfter opening day)
-  closings-equal = closing-same (ended-stands (begun-stands (opens-begun (w .opens))) (last-ended (w .opens) r)) (ended-stands (begun-stands begun₁) (last-ended (v .opens) s)) ends-equal
+  closings-equal =
+      let a = ended-stands (begun-stands (opens-begun (w .opens))) (last-ended (w .opens) r) in
+      closing-same a (ended-stands (begun-stands begun₁) (last-ended (v .opens) s)) ends-equal
 
   -- and both sheets end in them
   pub sheets-end-alike : EndsIn (sheetOf file) (closingOf (tablesAfter opening day)) × EndsIn (sheetOf file₁) (closingOf (tablesAfter opening day))

@@ -64,7 +64,7 @@ module _ (n count k : ℕ) where
 
   given-leads : (t : Tables) (p : Bool) → Leads (G.Members count k) (cond p (quiet (G.Members count (k + 1)) t) (openDoes n count t))
   given-leads t true = on refl
-  given-leads t false = open-leads (held (openAct count (balancesGiven count t) (linesGiven count t)) t) (held (openAct count (balancesGiven count t) (linesGiven count t)) t .answer) refl
+  given-leads t false = let u = held (openAct count (balancesGiven count t) (linesGiven count t)) t in open-leads u (u .answer) refl
 
   member-by : (t u : Tables) (p : Bool) → Leads (G.Members count k) (cond p (givenDoes n count k u) (stops n R.Line t))
   member-by t u true = given-leads u (ltb (k + 1) count)
@@ -115,8 +115,9 @@ turn-by d false e r l = over (d .lines + 1) R.Line refl (over-ends d (d .lines +
 
 step-turns : (d : Night) (x : Line) → awaiting (d .stage) ≡ true → Turns d (stepOf d x)
 step-turns d x a =
-    let s : stepOf d x ≡ finished (cond (ltb (d .lines) mostLines) (after d (doesOf (d .lines + 1) (d .stage) (d .tables) (entryIn x))) (stopped (d .lines + 1) d)) = rw (awaiting-on (d .stage) a) in
-    subst (Turns d) (sym s) (turn-by d (ltb (d .lines) mostLines) refl (doesOf (d .lines + 1) (d .stage) (d .tables) (entryIn x)) (does-leads (d .lines + 1) (d .stage) (d .tables) (entryIn x) a))
+    let r = doesOf (d .lines + 1) (d .stage) (d .tables) (entryIn x) in
+    let s : stepOf d x ≡ finished (cond (ltb (d .lines) mostLines) (after d r) (stopped (d .lines + 1) d)) = rw (awaiting-on (d .stage) a) in
+    subst (Turns d) (sym s) (turn-by d (ltb (d .lines) mostLines) refl r (does-leads (d .lines + 1) (d .stage) (d .tables) (entryIn x) a))
 
 -- ---- a file, by the lines that are left of it
 
@@ -129,7 +130,8 @@ module _ (file : List ℕ) where
   ends-early : (d : Night) → nightAfter (linesOf file) ≡ d → isOver (d .stage) ≡ false → Comes file
   ends-early d e o = refused 0 R.Line (record { earlier = d .sheet; parts = ap closed e ∙ ap (λ (b : Bool). cond b d (stopped 0 d) .sheet) o })
 
-  ends-over : (d : Night) (ls : List Line) (n : ℕ) (c : Refusal) → nightAfter (linesOf file) ≡ runOf stepOf d ls → isOver (d .stage) ≡ true → EndsIn (d .sheet) (textOf (refusal n c)) → Comes file
+  ends-over : (d : Night) (ls : List Line) (n : ℕ) (c : Refusal) → nightAfter (linesOf file) ≡ runOf stepOf d ls → isOver (d .stage) ≡ true
+      → EndsIn (d .sheet) (textOf (refusal n c)) → Comes file
   ends-over d ls n c e o s = refused n c (record { earlier = s .earlier; parts = ap closed (e ∙ over-run d ls o) ∙ ap (λ (b : Bool). cond b d (stopped 0 d) .sheet) o ∙ s .parts })
 
   left-run : (ls rest : List Line) → linesOf file ≡ ls ++ rest → nightAfter (linesOf file) ≡ runOf stepOf (nightAfter ls) rest
@@ -152,9 +154,11 @@ module _ (file : List ℕ) where
       day-full x rest e h =
           let l : mostLines ≤ eve .lines = omega (arith, gone .lines, all) in
           let s : stepOf eve x ≡ finished (stopped (eve .lines + 1) eve) = rw (gone .stage, le-ltb (eve .lines) mostLines l) in
-          ends-over (finished (stopped (eve .lines + 1) eve)) rest (eve .lines + 1) R.Line (eve-run (x ∷ rest) e ∙ ap (λ (d : Night). runOf stepOf d rest) s) refl (over-ends eve (eve .lines + 1) R.Line)
+          let r = eve-run (x ∷ rest) e ∙ ap (λ (d : Night). runOf stepOf d rest) s in
+          ends-over (finished (stopped (eve .lines + 1) eve)) rest (eve .lines + 1) R.Line r refl (over-ends eve (eve .lines + 1) R.Line)
 
-      day-by : (x : Line) (rest : List Line) → linesOf file ≡ opening ++ (day ++ (x ∷ rest)) → (isEnd (entryIn x) ≡ false → length opening + length day < mostLines → Comes file) → Comes file
+      day-by : (x : Line) (rest : List Line) → linesOf file ≡ opening ++ (day ++ (x ∷ rest))
+          → (isEnd (entryIn x) ≡ false → length opening + length day < mostLines → Comes file) → Comes file
       day-by x rest e later = go (ltb (length opening + length day) mostLines) refl (isEnd (entryIn x)) refl
         where
           go : (p : Bool) → ltb (length opening + length day) mostLines ≡ p → (q : Bool) → isEnd (entryIn x) ≡ q → Comes file
@@ -166,7 +170,8 @@ module _ (file : List ℕ) where
     unfolding runOf
     day-comes [] day still few e = let g = gone day still few in ends-early (eve day still few) (eve-run day still few [] e) (ap isOver (g .stage))
     day-comes (x ∷ rest) day still few e = day-by day still few x rest e (λ i h.
-        day-comes rest (day ++ (x ∷ [])) (each-snoc (λ l. isEnd (entryIn l) ≡ false) day x still i) (simp length-append (omega arith)) (e ∙ ap (λ (l : List Line). opening ++ l) (sym (append-assoc day (x ∷ []) rest))))
+        let p = e ∙ ap (λ (l : List Line). opening ++ l) (sym (append-assoc day (x ∷ []) rest)) in
+        day-comes rest (day ++ (x ∷ [])) (each-snoc (λ l. isEnd (entryIn l) ≡ false) day x still i) (simp length-append (omega arith)) p)
 
   -- in the opening
   open-comes : (rest earlier : List Line) → awaiting (nightAfter earlier .stage) ≡ true → nightAfter earlier .lines ≡ length earlier → linesOf file ≡ earlier ++ rest → Comes file
@@ -186,7 +191,8 @@ module _ (file : List ℕ) where
       count : stepOf (nightAfter earlier) x .lines ≡ nightAfter earlier .lines + 1 → nightAfter (earlier ++ (x ∷ [])) .lines ≡ length (earlier ++ (x ∷ []))
       count l = ap (λ (d : Night). d .lines) s ∙ l ∙ omega (arith, all, long)
 
-      go : Turns (nightAfter earlier) (stepOf (nightAfter earlier) x) → (awaiting (nightAfter (earlier ++ (x ∷ [])) .stage) ≡ true → nightAfter (earlier ++ (x ∷ [])) .lines ≡ length (earlier ++ (x ∷ [])) → Comes file) → Comes file
+      go : Turns (nightAfter earlier) (stepOf (nightAfter earlier) x)
+          → (awaiting (nightAfter (earlier ++ (x ∷ [])) .stage) ≡ true → nightAfter (earlier ++ (x ∷ [])) .lines ≡ length (earlier ++ (x ∷ [])) → Comes file) → Comes file
       go (on b l) later = later (ap (λ (d : Night). awaiting (d .stage)) s ∙ b) (count l)
       go (opens {count = n} {k = k} w b l h) later =
           let o : Opens (earlier ++ (x ∷ [])) = record { earlier = earlier; last = x; parts = refl; count = n; given = k; awaits = w; opens = ap (λ (d : Night). d .stage) s ∙ b } in

@@ -56,16 +56,22 @@ Gave G.Day t b l = Unit {0}
 Gave (G.Ending k) t b l = Unit {0}
 Gave G.Over t b l = Unit {0}
 
+-- after a line that did r
+abbrev GaveBy : Did → List ℤ → List ℤ → Type 0
+GaveBy r b l = Gave (told (r .stage)) (r .after) b l
+
 -- one member more
 module _ {count k : ℕ} {t : Tables} {b l : List ℤ} (g : Gives count k t b l) (x : ℤ) (y : ℕ) where
   given-balances : take (k + 1) (given t k x y .accounts) ≡ b ++ (x ∷ [])
   given-balances =
-      rw (take-set-le (k + 1) (set (t .accounts) k x) (64 + k) (pos y) (omega arith), add-one, take-suc-set (t .accounts) k x (omega (arith, g .giving .few, g .giving .next, g .giving .sized .long)), g .balances)
+      let r : k < length (t .accounts) = omega (arith, g .giving .few, g .giving .next, g .giving .sized .long) in
+      rw (take-set-le (k + 1) (set (t .accounts) k x) (64 + k) (pos y) (omega arith), add-one, take-suc-set (t .accounts) k x r, g .balances)
 
   given-lines : take (k + 1) (drop 64 (given t k x y .accounts)) ≡ l ++ (pos y ∷ [])
   given-lines =
       let r : k < length (drop 64 (t .accounts)) = omega (arith, length-drop 64 (t .accounts), g .giving .few, g .giving .next, g .giving .sized .long) in
-      rw (drop-set-add 64 (set (t .accounts) k x) k (pos y), drop-set-lt 64 (t .accounts) k x (omega (arith, g .giving .few, g .giving .next)), add-one, take-suc-set (drop 64 (t .accounts)) k (pos y) r, g .lines)
+      let q : k < 64 = omega (arith, g .giving .few, g .giving .next) in
+      rw (drop-set-add 64 (set (t .accounts) k x) k (pos y), drop-set-lt 64 (t .accounts) k x q, add-one, take-suc-set (drop 64 (t .accounts)) k (pos y) r, g .lines)
 
   gives-next : k + 1 < count → Gives count (k + 1) (given t k x y) (b ++ (x ∷ [])) (l ++ (pos y ∷ []))
   gives-next h = record {
@@ -80,13 +86,17 @@ open-gave : (o : Opened) (t : Tables) (b l : List ℤ) → Gave (told (openStage
 open-gave (opening.Done s) t b l = tt
 open-gave (opening.Refused r) t b l = tt
 
-house-gave : (n : ℕ) (t : Tables) (b l : List ℤ) → None t b l → (e : Entry) → Gave (told (houseDoes n t e .stage)) (houseDoes n t e .after) (b ++ balanceOf e) (l ++ creditOf e)
+house-gave : (n : ℕ) (t : Tables) (b l : List ℤ) → None t b l → (e : Entry) → GaveBy (houseDoes n t e) (b ++ balanceOf e) (l ++ creditOf e)
 house-gave n t b l g (E.opening (E.house count)) = go (leb 1 count && leb count members) refl
   where
-    go : (p : Bool) → (leb 1 count && leb count members) ≡ p → Gave (told (cond p (quiet (G.Members count 0) t) (stops n R.Opening t) .stage)) (cond p (quiet (G.Members count 0) t) (stops n R.Opening t) .after) (b ++ []) (l ++ [])
+    go : (p : Bool) → (leb 1 count && leb count members) ≡ p → GaveBy (cond p (quiet (G.Members count 0) t) (stops n R.Opening t)) (b ++ []) (l ++ [])
     go true e =
         let q = and-both (leb 1 count) (leb count members) e in
-        record { giving = record { few = leb-true count members (q .1); next = leb-true 1 count (q .0); sized = g .sized }; balances = sym (append-nil b ∙ g .balances); lines = sym (append-nil l ∙ g .lines) }
+        record {
+          giving = record { few = leb-true count members (q .1); next = leb-true 1 count (q .0); sized = g .sized };
+          balances = sym (append-nil b ∙ g .balances);
+          lines = sym (append-nil l ∙ g .lines);
+        }
     go false e = tt
 house-gave n t b l g (E.opening (E.member m x y)) = tt
 house-gave n t b l g (E.day d) = tt
@@ -95,31 +105,31 @@ house-gave n t b l g E.bad = tt
 
 module _ (n count k : ℕ) (t : Tables) {b l : List ℤ} (g : Gives count k t b l) where
   given-gave : (x : ℤ) (y : ℕ) (p : Bool) → ltb (k + 1) count ≡ p
-      → Gave (told (cond p (quiet (G.Members count (k + 1)) (given t k x y)) (openDoes n count (given t k x y)) .stage)) (cond p (quiet (G.Members count (k + 1)) (given t k x y)) (openDoes n count (given t k x y)) .after) (b ++ (x ∷ [])) (l ++ (pos y ∷ []))
+      → GaveBy (cond p (quiet (G.Members count (k + 1)) (given t k x y)) (openDoes n count (given t k x y))) (b ++ (x ∷ [])) (l ++ (pos y ∷ []))
   given-gave x y true e = gives-next g x y (ltb-true (k + 1) count e)
   given-gave x y false e =
       let u = held (openAct count (balancesGiven count (given t k x y)) (linesGiven count (given t k x y))) (given t k x y) in
       open-gave (u .answer) (u .after) (b ++ (x ∷ [])) (l ++ (pos y ∷ []))
 
   member-by : (x : ℤ) (y : ℕ) (p : Bool)
-      → Gave (told (cond p (givenDoes n count k (given t k x y)) (stops n R.Line t) .stage)) (cond p (givenDoes n count k (given t k x y)) (stops n R.Line t) .after) (b ++ (x ∷ [])) (l ++ (pos y ∷ []))
+      → GaveBy (cond p (givenDoes n count k (given t k x y)) (stops n R.Line t)) (b ++ (x ∷ [])) (l ++ (pos y ∷ []))
   member-by x y true = given-gave x y (ltb (k + 1) count) refl
   member-by x y false = tt
 
-  member-gave : (e : Entry) → Gave (told (memberDoes n count k t e .stage)) (memberDoes n count k t e .after) (b ++ balanceOf e) (l ++ creditOf e)
+  member-gave : (e : Entry) → GaveBy (memberDoes n count k t e) (b ++ balanceOf e) (l ++ creditOf e)
   member-gave (E.opening (E.house m)) = tt
   member-gave (E.opening (E.member m x y)) = member-by x y (eqb m (k + 1))
   member-gave (E.day d) = tt
   member-gave E.end = tt
   member-gave E.bad = tt
 
-day-gave : (n : ℕ) (t : Tables) (e : Entry) (b l : List ℤ) → Gave (told (dayDoes n t e .stage)) (dayDoes n t e .after) b l
+day-gave : (n : ℕ) (t : Tables) (e : Entry) (b l : List ℤ) → GaveBy (dayDoes n t e) b l
 day-gave n t (E.opening o) b l = tt
 day-gave n t (E.day d) b l = tt
 day-gave n t E.end b l = tt
 day-gave n t E.bad b l = tt
 
-does-gave : (n : ℕ) (s : Stage) (t : Tables) (e : Entry) (b l : List ℤ) → Gave s t b l → Gave (told (doesOf n s t e .stage)) (doesOf n s t e .after) (b ++ balanceOf e) (l ++ creditOf e)
+does-gave : (n : ℕ) (s : Stage) (t : Tables) (e : Entry) (b l : List ℤ) → Gave s t b l → GaveBy (doesOf n s t e) (b ++ balanceOf e) (l ++ creditOf e)
 does-gave n G.House t e b l g = house-gave n t b l g e
 does-gave n (G.Members count k) t e b l g = member-gave n count k t g e
 does-gave n G.Day t e b l g = day-gave n t e (b ++ balanceOf e) (l ++ creditOf e)
@@ -133,13 +143,15 @@ over-gave G.Day e t b l = tt
 over-gave (G.Ending k) e t b l = tt
 over-gave G.Over e t b l = tt
 
-step-gave : (d : Night) (x : Line) (b l : List ℤ) → Gave (d .stage) (d .tables) b l → Gave (stepOf d x .stage) (stepOf d x .tables) (b ++ balanceOf (entryIn x)) (l ++ creditOf (entryIn x))
+step-gave : (d : Night) (x : Line) (b l : List ℤ) → Gave (d .stage) (d .tables) b l
+    → Gave (stepOf d x .stage) (stepOf d x .tables) (b ++ balanceOf (entryIn x)) (l ++ creditOf (entryIn x))
 step-gave d x b l g = go (isOver (d .stage)) refl (ltb (d .lines) mostLines)
   where
     r : Did
     r = doesOf (d .lines + 1) (d .stage) (d .tables) (entryIn x)
 
-    go : (o : Bool) → isOver (d .stage) ≡ o → (p : Bool) → Gave (told (cond o d (cond p (after d r) (stopped (d .lines + 1) d)) .stage)) (cond o d (cond p (after d r) (stopped (d .lines + 1) d)) .tables) (b ++ balanceOf (entryIn x)) (l ++ creditOf (entryIn x))
+    go : (o : Bool) → isOver (d .stage) ≡ o → (p : Bool) → let e = cond o d (cond p (after d r) (stopped (d .lines + 1) d)) in
+        Gave (told (e .stage)) (e .tables) (b ++ balanceOf (entryIn x)) (l ++ creditOf (entryIn x))
     go true e p = over-gave (d .stage) e (d .tables) (b ++ balanceOf (entryIn x)) (l ++ creditOf (entryIn x))
     go false e true = does-gave (d .lines + 1) (d .stage) (d .tables) (entryIn x) b l g
     go false e false = tt
@@ -167,17 +179,19 @@ module _ (n count k : ℕ) (t : Tables) {b l : List ℤ} (g : Gives count k t b 
       go (opening.Done s) e q = record {
         before = v;
         sum = s;
-        promise = ap (λ z. held (openAct count z (l ++ (pos y ∷ []))) v) (sym eb) ∙ ap (λ z. held (openAct count (balancesGiven count v) z) v) (sym el) ∙ ap (λ a. outcome a (u .after)) e;
+        promise =
+            ap (λ z. held (openAct count z (l ++ (pos y ∷ []))) v) (sym eb) ∙ ap (λ z. held (openAct count (balancesGiven count v) z) v) (sym el)
+            ∙ ap (λ a. outcome a (u .after)) e;
       }
       go (opening.Refused r) e q = let z : _≡_ {A = ℕ} 0 1 = cc in absurd (omega arith)
 
-  given-begun : (x : ℤ) (y : ℕ) (p : Bool) → ltb (k + 1) count ≡ p → told (cond p (quiet (G.Members count (k + 1)) (given t k x y)) (openDoes n count (given t k x y)) .stage) ≡ G.Day
-      → Begun count (b ++ (x ∷ [])) (l ++ (pos y ∷ [])) (cond p (quiet (G.Members count (k + 1)) (given t k x y)) (openDoes n count (given t k x y)) .after)
+  given-begun : (x : ℤ) (y : ℕ) (p : Bool) → ltb (k + 1) count ≡ p → let r = cond p (quiet (G.Members count (k + 1)) (given t k x y)) (openDoes n count (given t k x y)) in
+      told (r .stage) ≡ G.Day → Begun count (b ++ (x ∷ [])) (l ++ (pos y ∷ [])) (r .after)
   given-begun x y true e q = let z : _≡_ {A = ℕ} 0 1 = cc in absurd (omega arith)
   given-begun x y false e q = open-begun x y (omega (arith, ltb-false (k + 1) count e, g .giving .next)) q
 
-  by-begun : (x : ℤ) (y : ℕ) (p : Bool) → told (cond p (givenDoes n count k (given t k x y)) (stops n R.Line t) .stage) ≡ G.Day
-      → Begun count (b ++ (x ∷ [])) (l ++ (pos y ∷ [])) (cond p (givenDoes n count k (given t k x y)) (stops n R.Line t) .after)
+  by-begun : (x : ℤ) (y : ℕ) (p : Bool) → let r = cond p (givenDoes n count k (given t k x y)) (stops n R.Line t) in
+      told (r .stage) ≡ G.Day → Begun count (b ++ (x ∷ [])) (l ++ (pos y ∷ [])) (r .after)
   by-begun x y true q = given-begun x y (ltb (k + 1) count) refl q
   by-begun x y false q = let z : _≡_ {A = ℕ} 0 1 = cc in absurd (omega arith)
 
@@ -196,7 +210,8 @@ step-begun : (d : Night) (x : Line) {count k : ℕ} {b l : List ℤ} → d .stag
     → Begun count (b ++ balanceOf (entryIn x)) (l ++ creditOf (entryIn x)) (stepOf d x .tables)
 step-begun d x {count} {k} {b} {l} e g q =
     let s : stepOf d x ≡ stepOf (nightAt d (G.Members count k)) x = ap (λ i. stepOf (nightAt d i) x) e in
-    subst (λ (v : Night). Begun count (b ++ balanceOf (entryIn x)) (l ++ creditOf (entryIn x)) (v .tables)) (sym s) (go (ltb (d .lines) mostLines) (sym (ap (λ (v : Night). v .stage) s) ∙ q))
+    subst (λ (v : Night). Begun count (b ++ balanceOf (entryIn x)) (l ++ creditOf (entryIn x)) (v .tables)) (sym s)
+    (go (ltb (d .lines) mostLines) (sym (ap (λ (v : Night). v .stage) s) ∙ q))
   where
     f : Night
     f = nightAt d (G.Members count k)
@@ -204,13 +219,15 @@ step-begun d x {count} {k} {b} {l} e g q =
     r : Did
     r = memberDoes (d .lines + 1) count k (d .tables) (entryIn x)
 
-    go : (p : Bool) → told (cond p (after f r) (stopped (d .lines + 1) f) .stage) ≡ G.Day → Begun count (b ++ balanceOf (entryIn x)) (l ++ creditOf (entryIn x)) (cond p (after f r) (stopped (d .lines + 1) f) .tables)
+    go : (p : Bool) → let e = cond p (after f r) (stopped (d .lines + 1) f) in
+        told (e .stage) ≡ G.Day → Begun count (b ++ balanceOf (entryIn x)) (l ++ creditOf (entryIn x)) (e .tables)
     go true h = member-begun (d .lines + 1) count k (d .tables) g (entryIn x) h
     go false h = let z : _≡_ {A = ℕ} 0 1 = cc in absurd (omega arith)
 
 -- ---- all of them
 
-run-gave : (d : Night) (ls : List Line) (b l : List ℤ) → Gave (d .stage) (d .tables) b l → Gave (runOf stepOf d ls .stage) (runOf stepOf d ls .tables) (b ++ balancesIn ls) (l ++ creditsIn ls)
+run-gave : (d : Night) (ls : List Line) (b l : List ℤ) → Gave (d .stage) (d .tables) b l
+    → Gave (runOf stepOf d ls .stage) (runOf stepOf d ls .tables) (b ++ balancesIn ls) (l ++ creditsIn ls)
 unfolding runOf
 run-gave d [] b l g = rw (append-nil b, append-nil l) g
 run-gave d (x ∷ ls) b l g =
@@ -226,13 +243,23 @@ credits-join [] x = append-nil (creditOf (entryIn x))
 credits-join (y ∷ ls) x = ap (λ (r : List ℤ). creditOf (entryIn y) ++ r) (credits-join ls x) ∙ sym (append-assoc (creditOf (entryIn y)) (creditsIn ls) (creditOf (entryIn x)))
 
 morning-gave : Gave G.House (morning .tables) [] []
-morning-gave = record { sized = record { long = rw (length-replicate 512 (pos 0)) (omega arith); broad = rw (length-replicate {A = ℕ} 512 0) (omega arith); deep = rw (length-replicate {A = ℕ} 2048 0) (omega arith) }; balances = refl; lines = refl }
+morning-gave = record {
+  sized = record {
+    long = rw (length-replicate 512 (pos 0)) (omega arith);
+    broad = rw (length-replicate {A = ℕ} 512 0) (omega arith);
+    deep = rw (length-replicate {A = ℕ} 2048 0) (omega arith);
+  };
+  balances = refl;
+  lines = refl;
+}
 
 -- an accepted open gives as many balances as members
 begun-length : {n : ℕ} {b l : List ℤ} {T : Tables} → Begun n b l T → length b ≡ n
 unfolding held openAct
 begun-length {n} {b} {l} {T} o =
-    let j : first (openAct n b l .tests (o .before)) ≡ Fine = done-fine (openAct n b l) (o .before) (first (openAct n b l .tests (o .before))) (outcome (opening.Done (o .sum)) T) (λ r e. let z : _≡_ {A = ℕ} 0 1 = cc in omega arith) (o .promise) in
+    let k = openAct n b l in
+    let u : Outcome Opened = outcome (opening.Done (o .sum)) T in
+    let j : first (k .tests (o .before)) ≡ Fine = done-fine k (o .before) (first (k .tests (o .before))) u (λ r e. let z : _≡_ {A = ℕ} 0 1 = cc in omega arith) (o .promise) in
     let f : OpenFine (o .before) n b l = open-fine j in
     f .opening .balances
 

@@ -176,14 +176,15 @@ lines-print {n} d (l ∷ ls) day h q on few =
     let s = saysOf d l in
     let m : made (qs ++ requestsIn n ls) (d .tables) ≡ made qs (d .tables) ++ made (requestsIn n ls) (stepOf d l .tables) =
     made-join qs (requestsIn n ls) (d .tables) ∙ ap (λ (T : Tables). made qs (d .tables) ++ made (requestsIn n ls) T) (sym (g .after)) in
+    let r = reads-join (made qs (d .tables)) (readLine (entryIn l) s) (made (requestsIn n ls) (stepOf d l .tables)) (readOff (stepOf d l) ls)
+    (line-reads h (d .lines + 1) n (entryIn l)) (k .reads) in
     record {
       holds = k .holds;
       sheet =
           k .sheet ∙ ap (λ (z : List ℕ). z ++ textsOf (saysIn (stepOf d l) ls)) (line-sheet d l day (omega arith) (on .0))
           ∙ append-assoc (d .sheet) (textsOf s) (textsOf (saysIn (stepOf d l) ls))
           ∙ ap (λ (z : List ℕ). d .sheet ++ z) (sym (texts-join s (saysIn (stepOf d l) ls)));
-      reads = subst (λ (cs : List Call). Reads cs (readOff d (l ∷ ls))) (sym m)
-          (reads-join (made qs (d .tables)) (readLine (entryIn l) s) (made (requestsIn n ls) (stepOf d l .tables)) (readOff (stepOf d l) ls) (line-reads h (d .lines + 1) n (entryIn l)) (k .reads));
+      reads = subst (λ (cs : List Call). Reads cs (readOff d (l ∷ ls))) (sym m) r;
     }
 
 -- ---- a file
