@@ -57,7 +57,9 @@ use Rattle.night.specs.Lines.{says, dayDoes}
 use Rattle.sheet.specs.Sheet.{textsOf, stepOf, sheetOf}
 use Rattle.nights.specs.Files.{nightAfter, OpenAlike, Whole, LastResolves, EndsIn, balancesIn, creditsIn, membersOf, madeAfter, tablesAfter, closingOf, closingIn}
 use Rattle.nights.specs.Printed.{judgedLine, saysIn, readOff, Reads}
+use Rattle.nights.specs.Forms.{Opening}
 use Rattle.nights.proofs.Openings.{opens-begun}
+use Rattle.nights.proofs.Forms.{opens-form}
 use Rattle.nights.proofs.Printed.{line-refused, file-prints, file-reads, file-sheet}
 use Rattle.nights.proofs.Splits.{one-split}
 use Rattle.nights.proofs.Demands.{file-money, last-ended, sheets-end-alike, sheet-as-at-once}
@@ -204,6 +206,10 @@ files-end-alike w v o r s alike = sheets-end-alike w v o r s (alike .totals) (al
 -- which are fixed by the file: it has one opening and one day;
 pub files-split : {opening opening₁ day day₁ : List Line} {file : List ℕ} → Whole opening day file → Whole opening₁ day₁ file → (opening ≡ opening₁) × (day ≡ day₁)
 files-split = one-split
+
+-- the opening is a house line with its count, and that many member lines in order;
+pub files-open : {opening day : List Line} {file : List ℕ} → Whole opening day file → Opening opening
+files-open w = opens-form (w .opens)
 
 -- what it accepted is read off its `queued` and `deposited` lines,
 pub files-read : {opening day : List Line} {file : List ℕ} → Whole opening day file → Reads (madeAfter opening day) (readOff (nightAfter opening) day)

@@ -2,6 +2,7 @@ pub mod Calls
 pub mod Requests
 pub mod Runs
 pub mod Openings
+pub mod Forms
 pub mod Closing
 pub mod Demands
 pub mod Ends
