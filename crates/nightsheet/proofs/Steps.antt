@@ -17,7 +17,8 @@ use Rattle.tables.specs.Layout.{Tables}
 use Rattle.tables.proofs.Tests.{and-both}
 use Rattle.sheet.specs.declared.State.{State}
 use Rattle.sheet.specs.declared.Turn.{Turn}
-use Rattle.sheet.specs.Sheet.{isOver, morning, sheetOf}
+use Rattle.night.specs.Stages.{isOver}
+use Rattle.sheet.specs.Sheet.{morning}
 use Rattle.sheet.specs.Stops.{Stops}
 use Rattle.sheet.specs.Turns.{Desk, turnOf, goesOn, closeTurn, closesOn}
 use Rattle.sheet.specs.Feeding.{deskOf, dawn, Fit}

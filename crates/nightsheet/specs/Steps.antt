@@ -15,7 +15,8 @@ use Rattle.print.specs.Room.{hasRoom}
 use Rattle.tables.specs.Layout.{Tables}
 use Rattle.night.specs.declared.Stage.{Stage}
 use Rattle.sheet.specs.declared.State.{State}
-use Rattle.sheet.specs.Sheet.{isOver, sheetOf}
+use Rattle.night.specs.Stages.{isOver}
+use Rattle.sheet.specs.Sheet.{sheetOf}
 use Rattle.sheet.specs.Turns.{Desk}
 use Rattle.sheet.specs.Feeding.{deskOf, Fit}
 use Rattle.sheet.specs.Session.{Session}
