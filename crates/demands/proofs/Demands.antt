@@ -3,7 +3,8 @@
 --
 -- T, U, W and X are tables (tables/specs/Layout), s and t the bytes that hold them, x and y all that a host lends. n is how many members a
 -- house has, and i one of them, counted from 0. b and l are opening balances and lines. H is a house, z a set of payments: how many from the
--- head of each member's queue, v a verdict's number. k is a call (answers/specs/Outcome) or its code, r a refusal, qs and rs are requests one after the other.
+-- head of each member's queue, v a verdict's number. k is a call (answers/specs/Outcome) or its code, r a refusal; qs and rs are requests
+-- one after the other, ls and ms lines of a day file.
 use mathlib.Core.Path.{_≡_, refl, ap}
 use mathlib.Core.Bool.{not, cond}
 use mathlib.Core.Logic.{_↔_, _≢_}
@@ -60,7 +61,7 @@ use Rattle.nights.specs.Printed.{judgedLine, saysIn, readOff, Reads}
 use Rattle.nights.specs.Forms.{Opening}
 use Rattle.nights.proofs.Openings.{opens-begun}
 use Rattle.nights.proofs.Forms.{opens-form}
-use Rattle.nights.proofs.Printed.{line-refused, file-prints, file-reads, file-sheet}
+use Rattle.nights.proofs.Printed.{line-refused, file-holds, file-reads, file-sheet}
 use Rattle.nights.proofs.Splits.{one-split}
 use Rattle.nights.proofs.Demands.{file-money, last-ended, sheets-end-alike, sheet-as-at-once}
 use Rattle.demands.specs.Refusals.{codeIn, judgedOn}
@@ -104,9 +105,9 @@ bytes-refused = refused-changes-nothing
 pub files-refused : {T : Tables} → Holds T → (i : ℕ) (e : Entry) {r : Refusal} → judgedLine T e ≡ Bad r → dayDoes i T e ≡ says (refusal i r) ItIsDay T
 files-refused h i e q = line-refused h i e q
 
--- and the tables that a line of the day finds hold a state
-pub files-hold : {opening day : List Line} {file : List ℕ} → Whole opening day file → Holds (runOf stepOf (nightAfter opening) day .tables)
-files-hold w = file-prints w .holds
+-- and the tables that it finds, after any first lines of the day, hold a state
+pub files-hold : {opening day : List Line} {file : List ℕ} → Whole opening day file → (ls ms : List Line) → day ≡ ls ++ ms → Holds (runOf stepOf (nightAfter opening) ls .tables)
+files-hold w = file-holds w
 
 -- ==== Demand 2. A resolution settles the largest allowed set; deadlock is told exactly when payments wait and no allowed set but the empty
 -- one exists; the sum of balances is always the opening sum plus accepted deposits.

@@ -17,12 +17,12 @@ use Rattle.answers.specs.declared.Refusal.the-variants as R
 use Rattle.answers.specs.Outcome.{held}
 use Rattle.opening.specs.Open.{openAct}
 use Rattle.dayfile.specs.Entries as E
-use Rattle.dayfile.specs.Entries.{mostLines, DayLine, Entry}
+use Rattle.dayfile.specs.Entries.{mostLines, Entry}
 use Rattle.cut.specs.Lines.{Line}
 use Rattle.cut.specs.Chunks.{runOf}
 use Rattle.night.specs.declared.Stage.{Stage}
 use Rattle.night.specs.declared.Stage.the-variants as G
-use Rattle.night.specs.Lines.{Did, quiet, stops, houseDoes, given, balancesGiven, linesGiven, openStage, openDoes, givenDoes, memberDoes, callDoes, dayDoes, doesOf}
+use Rattle.night.specs.Lines.{Did, quiet, stops, houseDoes, given, balancesGiven, linesGiven, openStage, openDoes, givenDoes, memberDoes, dayDoes, doesOf}
 use Rattle.night.specs.Stages.{isOver, told}
 use Rattle.sheet.specs.Sheet.{Night, after, stopped, entryIn, stepOf, morning}
 use Rattle.nights.specs.Files.{nightAfter, Opens}
@@ -108,14 +108,7 @@ module _ (n count k : ℕ) (t : Tables) {es : List Entry} (b : Begins count k es
 
 day-formed : (n : ℕ) (t : Tables) (e : Entry) (es : List Entry) → Formed (told (dayDoes n t e .stage)) es
 day-formed n t (E.opening o) es = tt
-day-formed n t (E.day d) es = go d
-  where
-    go : (d : DayLine) → Formed (told (callDoes n t d .stage)) es
-    go (E.pay kind m k q x) = tt
-    go (E.deposit m x) = tt
-    go (E.release m) = tt
-    go (E.group k) = tt
-    go E.resolve = tt
+day-formed n t (E.day d) es = tt
 day-formed n t E.end es = tt
 day-formed n t E.bad es = tt
 

@@ -4,14 +4,14 @@ use mathlib.Core.Bool.{false}
 use mathlib.Core.List.{List, [], _∷_, _++_, append-nil, append-assoc}
 use Prim.Native.Nat.{ℕ, _+_, _-_, _≤_, _<_}
 use native.Mathlib.Omega.{arith}
-use lib.ListN.{length, replicate}
+use lib.ListN.{length, replicate, length-append}
 use Rattle.rule.specs.Lists.{Each}
 use Rattle.rule.specs.Kernel.{Counts}
 use Rattle.rule.specs.Payment.{word}
 use Rattle.rule.specs.Day.{Call, deposit, submit, settle, deposits, payments}
 use Rattle.tables.specs.Layout.{Tables, membersIn}
 use Rattle.tables.specs.Holds.{Holds}
-use Rattle.answers.specs.Outcome.{outcome, Act, decided, held, judgement}
+use Rattle.answers.specs.Outcome.{Outcome, outcome, Act, decided, held, judgement}
 use Rattle.answers.specs.declared.Refusal.{Refusal}
 use Rattle.answers.specs.declared.Refusal.the-variants.{Line as BadLine}
 use Rattle.answers.specs.declared.Judged.{Judged}
@@ -32,8 +32,8 @@ use Rattle.cut.specs.Lines.{Line, linesOf}
 use Rattle.cut.specs.Chunks.{runOf}
 use Rattle.night.specs.declared.Stage.{Stage}
 use Rattle.night.specs.declared.Stage.the-variants as G
-use Rattle.daylines.specs.Calls.{refusal, paySays, depositSays, releaseSays, groupSays, callDoes}
-use Rattle.night.specs.Lines.{Did, says, lineOf, dayDoes}
+use Rattle.daylines.specs.Calls.{refusal, lineOf, paySays, depositSays, releaseSays, groupSays, callDoes}
+use Rattle.night.specs.Lines.{says, dayDoes}
 use Rattle.night.specs.Stages.{restSays}
 use Rattle.sheet.specs.Sheet.{Night, textsOf, entryIn, stepOf, morning, closed, sheetOf}
 use Rattle.days.specs.Days.{accepted, made}
@@ -56,39 +56,42 @@ module _ {t : Tables} (h : Holds t) (i : ℕ) where
   unfolding held
   judged-line say k = ap (λ (j : Judged). lineOf say (decided k t j)) (sym (judgement-held k t h))
 
-  pay-does : (kind m k q x : ℕ) (j : Judged) → lineOf (paySays i m k) (decided (submitAct m k q x) t j) .said ≡ printedAs i t (E.pay kind m k q x) j ∷ []
+  pay-says : (kind m k q x : ℕ) (j : Judged) → lineOf (paySays i m k) (decided (submitAct m k q x) t j) .answer ≡ printedAs i t (E.pay kind m k q x) j
   unfolding submitAct
-  pay-does kind m k q x Fine = refl
-  pay-does kind m k q x (Bad r) = refl
+  pay-says kind m k q x Fine = refl
+  pay-says kind m k q x (Bad r) = refl
 
-  deposit-does : (m x : ℕ) (j : Judged) → lineOf (depositSays i m) (decided (depositAct m x) t j) .said ≡ printedAs i t (E.deposit m x) j ∷ []
+  deposit-says : (m x : ℕ) (j : Judged) → lineOf (depositSays i m) (decided (depositAct m x) t j) .answer ≡ printedAs i t (E.deposit m x) j
   unfolding depositAct
-  deposit-does m x Fine = refl
-  deposit-does m x (Bad r) = refl
+  deposit-says m x Fine = refl
+  deposit-says m x (Bad r) = refl
 
-  release-does : (m : ℕ) (j : Judged) → lineOf (releaseSays i) (decided (releaseAct m) t j) .said ≡ printedAs i t (E.release m) j ∷ []
+  release-says : (m : ℕ) (j : Judged) → lineOf (releaseSays i) (decided (releaseAct m) t j) .answer ≡ printedAs i t (E.release m) j
   unfolding releaseAct
-  release-does m Fine = refl
-  release-does m (Bad r) = refl
+  release-says m Fine = refl
+  release-says m (Bad r) = refl
 
-  group-does : (k : List ℕ) (j : Judged) → lineOf (groupSays i) (decided (groupAct k) t j) .said ≡ printedAs i t (E.group k) j ∷ []
+  group-says : (k : List ℕ) (j : Judged) → lineOf (groupSays i) (decided (groupAct k) t j) .answer ≡ printedAs i t (E.group k) j
   unfolding groupAct bookAct
-  group-does k Fine = refl
-  group-does k (Bad r) = refl
+  group-says k Fine = refl
+  group-says k (Bad r) = refl
+
+  abbrev answerOf : Outcome Says → Says
+  answerOf u = u .answer
 
   -- a line of the day prints what its judgement says: exactly an accepted payment prints `queued`, and an accepted deposit `deposited`
-  pub call-prints : (d : DayLine) → callDoes i t d .said ≡ printedAs i t d (judgedCall t d) ∷ []
-  call-prints (E.pay kind m k q x) = ap (λ (r : Did). r .said) (judged-line (paySays i m k) (submitAct m k q x)) ∙ pay-does kind m k q x (judgement (submitAct m k q x) t)
-  call-prints (E.deposit m x) = ap (λ (r : Did). r .said) (judged-line (depositSays i m) (depositAct m x)) ∙ deposit-does m x (judgement (depositAct m x) t)
-  call-prints (E.release m) = ap (λ (r : Did). r .said) (judged-line (releaseSays i) (releaseAct m)) ∙ release-does m (judgement (releaseAct m) t)
-  call-prints (E.group k) = ap (λ (r : Did). r .said) (judged-line (groupSays i) (groupAct k)) ∙ group-does k (judgement (groupAct k) t)
+  pub call-prints : (d : DayLine) → callDoes i t d .answer ≡ printedAs i t d (judgedCall t d)
+  call-prints (E.pay kind m k q x) = ap answerOf (judged-line (paySays i m k) (submitAct m k q x)) ∙ pay-says kind m k q x (judgement (submitAct m k q x) t)
+  call-prints (E.deposit m x) = ap answerOf (judged-line (depositSays i m) (depositAct m x)) ∙ deposit-says m x (judgement (depositAct m x) t)
+  call-prints (E.release m) = ap answerOf (judged-line (releaseSays i) (releaseAct m)) ∙ release-says m (judgement (releaseAct m) t)
+  call-prints (E.group k) = ap answerOf (judged-line (groupSays i) (groupAct k)) ∙ group-says k (judgement (groupAct k) t)
   call-prints E.resolve = refl
 
   -- a refused line prints its code, and changes nothing
   refused-does : {A : Type 0} (say : A → Says) (k : Act A) {r : Refusal} → judgement k t ≡ Bad r → lineOf say (held k t) ≡ lineOf say (outcome (k .refuse r) t)
   refused-does say k e = judged-line say k ∙ ap (λ (j : Judged). lineOf say (decided k t j)) e
 
-  call-refused : (d : DayLine) {r : Refusal} → judgedCall t d ≡ Bad r → callDoes i t d ≡ says (refusal i r) G.Day t
+  call-refused : (d : DayLine) {r : Refusal} → judgedCall t d ≡ Bad r → callDoes i t d ≡ outcome (refusal i r) t
   unfolding submitAct depositAct releaseAct groupAct bookAct
   call-refused (E.pay kind m k q x) e = refused-does (paySays i m k) (submitAct m k q x) e
   call-refused (E.deposit m x) e = refused-does (depositSays i m) (depositAct m x) e
@@ -98,7 +101,7 @@ module _ {t : Tables} (h : Holds t) (i : ℕ) where
 
   pub line-refused : (e : Entry) {r : Refusal} → judgedLine t e ≡ Bad r → dayDoes i t e ≡ says (refusal i r) G.Day t
   line-refused (E.opening o) {r} q = let e : BadLine ≡ r = cc in ap (λ (r : Refusal). says (refusal i r) G.Day t) e
-  line-refused (E.day d) q = call-refused d q
+  line-refused (E.day d) q = ap (λ (u : Outcome Says). says (u .answer) G.Day (u .after)) (call-refused d q)
   line-refused E.end q = absurd (let z : _≡_ {A = ℕ} 0 1 = cc in omega arith)
   line-refused E.bad {r} q = let e : BadLine ≡ r = cc in ap (λ (r : Refusal). says (refusal i r) G.Day t) e
 
@@ -126,13 +129,13 @@ module _ {t : Tables} (h : Holds t) (i n : ℕ) where
   read-deposit m x c Fine = append-nil c
   read-deposit m x c (Bad r) = refl
 
-  call-reads : (d : DayLine) → Reads (made (requestOf n d ∷ []) t) (readCall d (callDoes i t d .said))
+  call-reads : (d : DayLine) → Reads (made (requestOf n d ∷ []) t) (readCall d (callDoes i t d .answer ∷ []))
   call-reads (E.pay kind m k q x) =
       let c : List Call = submit (word (m - 1) (q - 1) x) ∷ [] in
-      reads-same (read-pay kind m k q x c (judgement (submitAct m k q x) t) ∙ ap (λ (ss : List Says). ifQueued ss c) (sym (call-prints h i (E.pay kind m k q x))))
+      reads-same (read-pay kind m k q x c (judgement (submitAct m k q x) t) ∙ ap (λ (s : Says). ifQueued (s ∷ []) c) (sym (call-prints h i (E.pay kind m k q x))))
   call-reads (E.deposit m x) =
       let c : List Call = deposit (m - 1) x ∷ [] in
-      reads-same (read-deposit m x c (judgement (depositAct m x) t) ∙ ap (λ (ss : List Says). ifDeposited ss c) (sym (call-prints h i (E.deposit m x))))
+      reads-same (read-deposit m x c (judgement (depositAct m x) t) ∙ ap (λ (s : Says). ifDeposited (s ∷ []) c) (sym (call-prints h i (E.deposit m x))))
   call-reads (E.release m) = reads-settled (judgement (releaseAct m) t) (onlyHead m)
   call-reads (E.group k) = reads-settled (judgement (groupAct k) t) (listed k)
   call-reads E.resolve = reads-settled (judgement (resolveAct (replicate n 0)) t) (listed (largestIn t))
@@ -189,6 +192,10 @@ lines-print {n} d (l ∷ ls) day h q on few =
 
 -- ---- a file
 
+each-first : {P : Line → Type 0} (ls ms : List Line) → Each P (ls ++ ms) → Each P ls
+each-first [] ms e = tt
+each-first (l ∷ ls) ms (p, e) = (p, each-first ls ms e)
+
 module _ {opening day : List Line} {file : List ℕ} (w : Whole opening day file) where
   abbrev eve : Night
   eve = runOf stepOf (nightAfter opening) day
@@ -197,6 +204,14 @@ module _ {opening day : List Line} {file : List ℕ} (w : Whole opening day file
   file-prints =
       let b = opens-begun (w .opens) in
       lines-print (nightAfter opening) day (w .opens .opens) (begun-stands b) (begun-members b) (w .goes-on) (omega (arith, run-few morning opening, w .few))
+
+  -- after any first lines of its day the tables hold a state
+  pub file-holds : (ls ms : List Line) → day ≡ ls ++ ms → Holds (runOf stepOf (nightAfter opening) ls .tables)
+  file-holds ls ms e =
+      let b = opens-begun (w .opens) in
+      let on = each-first ls ms (subst (Each (λ l. isEnd (entryIn l) ≡ false)) e (w .goes-on)) in
+      let f : nightAfter opening .lines + length ls ≤ mostLines = omega (arith, run-few morning opening, w .few, ap length e, length-append ls ms) in
+      lines-print (nightAfter opening) ls (w .opens .opens) (begun-stands b) (begun-members b) on f .holds
 
   -- the accepted deposits and payments of a file are those that are read off it and its sheet,
   pub file-reads : Reads (madeAfter opening day) (readOff (nightAfter opening) day)

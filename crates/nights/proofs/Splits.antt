@@ -9,12 +9,11 @@ use lib.ListN.{length, length-append}
 use Rattle.rule.specs.Lists.{Each}
 use Rattle.tables.specs.Layout.{Tables}
 use Rattle.dayfile.specs.Entries as E
-use Rattle.dayfile.specs.Entries.{mostLines, DayLine, Entry}
+use Rattle.dayfile.specs.Entries.{mostLines, Entry}
 use Rattle.cut.specs.Lines.{Line}
 use Rattle.cut.specs.Chunks.{runOf}
 use Rattle.night.specs.declared.Stage.{Stage}
 use Rattle.night.specs.declared.Stage.the-variants as G
-use Rattle.daylines.specs.Calls.{callDoes}
 use Rattle.night.specs.Lines.{dayDoes, doesOf}
 use Rattle.night.specs.Stages.{isOver, told}
 use Rattle.sheet.specs.Sheet.{Night, after, stopped, entryIn, stepOf, morning}
@@ -59,16 +58,9 @@ told-open G.Day e = e
 told-open (G.Ending k) e = refl
 told-open G.Over e = refl
 
-call-open : (n : ℕ) (t : Tables) (d : DayLine) → isOpen (callDoes n t d .stage) ≡ true
-call-open n t (E.pay kind m k q x) = refl
-call-open n t (E.deposit m x) = refl
-call-open n t (E.release m) = refl
-call-open n t (E.group k) = refl
-call-open n t E.resolve = refl
-
 day-open : (n : ℕ) (t : Tables) (e : Entry) → isOpen (dayDoes n t e .stage) ≡ true
 day-open n t (E.opening o) = refl
-day-open n t (E.day d) = call-open n t d
+day-open n t (E.day d) = refl
 day-open n t E.end = refl
 day-open n t E.bad = refl
 
