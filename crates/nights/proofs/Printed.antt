@@ -192,9 +192,9 @@ lines-print {n} d (l ∷ ls) day h q on few =
 
 -- ---- a file
 
-each-first : {P : Line → Type 0} (ls ms : List Line) → Each P (ls ++ ms) → Each P ls
-each-first [] ms e = tt
-each-first (l ∷ ls) ms (p, e) = (p, each-first ls ms e)
+each-first : (P : Line → Type 0) (ls ms : List Line) → Each P (ls ++ ms) → Each P ls
+each-first P [] ms e = tt
+each-first P (l ∷ ls) ms (p, e) = (p, each-first P ls ms e)
 
 module _ {opening day : List Line} {file : List ℕ} (w : Whole opening day file) where
   abbrev eve : Night
@@ -209,7 +209,7 @@ module _ {opening day : List Line} {file : List ℕ} (w : Whole opening day file
   pub file-holds : (ls ms : List Line) → day ≡ ls ++ ms → Holds (runOf stepOf (nightAfter opening) ls .tables)
   file-holds ls ms e =
       let b = opens-begun (w .opens) in
-      let on = each-first ls ms (subst (Each (λ l. isEnd (entryIn l) ≡ false)) e (w .goes-on)) in
+      let on = each-first (λ l. isEnd (entryIn l) ≡ false) ls ms (subst (Each (λ l. isEnd (entryIn l) ≡ false)) e (w .goes-on)) in
       let f : nightAfter opening .lines + length ls ≤ mostLines = omega (arith, run-few morning opening, w .few, ap length e, length-append ls ms) in
       lines-print (nightAfter opening) ls (w .opens .opens) (begun-stands b) (begun-members b) on f .holds
 
