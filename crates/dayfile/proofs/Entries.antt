@@ -28,7 +28,9 @@ use Rattle.dayfile.specs.declared.Entry.the-variants as E
 use Rattle.dayfile.specs.declared.Count.{Count}
 use Rattle.dayfile.specs.declared.Count.the-variants as C
 use Rattle.dayfile.specs.Fields.{fieldsOf, fieldsFrom, upTo, same}
-use Rattle.dayfile.specs.Entries.{mostCounts, edition, plain, memberWord, OpeningLine, house, member, DayLine, pay, deposit, release, group, resolve, Entry, opening, day, end, bad, Numbers, good, short, also, addTo, numbersOf, valuesOf, countFrom, kindOf, onlyOf, houseOf, groupOf, ofKind, ofNumbers, asMember, memberOf, ofFields, entryOf, AllSmall, smallEntry}
+use Rattle.dayfile.specs.Entries.{mostCounts, edition, plain, memberWord, house, member, pay, deposit, release, group, resolve}
+use Rattle.dayfile.specs.Entries.{Entry, opening, day, end, bad, Numbers, good, short, also, addTo, numbersOf, valuesOf, countFrom, kindOf, onlyOf}
+use Rattle.dayfile.specs.Entries.{houseOf, groupOf, ofKind, ofNumbers, asMember, memberOf, ofFields, entryOf, AllSmall, smallEntry}
 use Rattle.dayfile.specs.Reading.{meant, countsIn, Tells, leftOf}
 use Rattle.dayfile.proofs.Fields.{tab-within, fields-line, fields-step, fields-end}
 
@@ -104,7 +106,9 @@ module _ (v : List ℕ) (m : ℕ) (h : m ≤ length v) where
   kind-house = rw (length-take-le m v h) (tells-only v m 2 house-at)
 
   pub kind-pay : Tells (cond (eqb m 4) (E.Day (D.Pay plain (getD v 0 0) (getD v 1 0) (getD v 2 0) (getD v 3 0))) E.Bad) v (ofKind K.Pay (take m v))
-  kind-pay = rw (length-take-le m v h) (tells-only v m 4 (λ n. rw (at 0 (omega arith), at 1 (omega arith), at 2 (omega arith), at 3 (omega arith)) (record { means = refl; few = omega arith })))
+  kind-pay =
+      rw (length-take-le m v h)
+      (tells-only v m 4 (λ n. rw (at 0 (omega arith), at 1 (omega arith), at 2 (omega arith), at 3 (omega arith)) (record { means = refl; few = omega arith })))
 
   pub kind-deposit : Tells (cond (eqb m 2) (E.Day (D.Deposit (getD v 0 0) (getD v 1 0))) E.Bad) v (ofKind K.Deposit (take m v))
   kind-deposit = rw (length-take-le m v h) (tells-only v m 2 (λ n. rw (at 0 (omega arith), at 1 (omega arith)) (record { means = refl; few = omega arith })))
@@ -113,7 +117,10 @@ module _ (v : List ℕ) (m : ℕ) (h : m ≤ length v) where
   kind-release = rw (length-take-le m v h) (tells-only v m 1 (λ n. rw (at 0 (omega arith)) (record { means = refl; few = omega arith })))
 
   pub kind-group : Tells (cond (eqb m 0) E.Bad (E.Day (D.Group m))) v (ofKind K.Group (take m v))
-  kind-group = rw (length-take-le m v h) (by-eqb m 0 (λ p. Tells (cond p E.Bad (E.Day (D.Group m))) v (cond p bad (day (group (take m v))))) (λ q. tells-bad v) (λ q. record { means = refl; few = h }))
+  kind-group =
+      rw (length-take-le m v h)
+      (by-eqb m 0 (λ p. Tells (cond p E.Bad (E.Day (D.Group m))) v (cond p bad (day (group (take m v))))) (λ q. tells-bad v)
+      (λ q. record { means = refl; few = h }))
 
   pub kind-resolve : Tells (cond (eqb m 0) (E.Day D.Resolve) E.Bad) v (ofKind K.Resolve (take m v))
   kind-resolve = rw (length-take-le m v h) (tells-only v m 0 (λ n. record { means = refl; few = omega arith }))
@@ -195,12 +202,27 @@ module _ (s : List ℕ) (from a : ℕ) (h : from ≤ length s) (p : a ≡ from +
       more-fields n =
           let d : c + 1 ≤ length s = omega arith in
           let u : c + 1 + upTo (drop (c + 1) s) ≤ length s = omega (arith, tab-within (drop (c + 1) s), length-drop (c + 1) s) in
-          rw (fields-step s from a h p l, fields-step s (a + 1) b (omega arith) q m, fields-step s (b + 1) c (omega arith) r o, fields-step s (c + 1) (c + 1 + upTo (drop (c + 1) s)) d refl u) (tells-bad [])
+          rw (
+            fields-step s from a h p l,
+            fields-step s (a + 1) b (omega arith) q m,
+            fields-step s (b + 1) c (omega arith) r o,
+            fields-step s (c + 1) (c + 1 + upTo (drop (c + 1) s)) d refl u,
+          ) (tells-bad [])
 
       pub three-fields : length s ≤ c → (x : Number) (y : Signed) (z : Number) {r : Answer}
-          → x ≡ numberOf (take (a - from) (drop from s)) → y ≡ signedOf (take (b - (a + 1)) (drop (a + 1) s)) → z ≡ numberOf (take (c - (b + 1)) (drop (b + 1) s))
+          → x ≡ numberOf (take (a - from) (drop from s)) → y ≡ signedOf (take (b - (a + 1)) (drop (a + 1) s))
+          → z ≡ numberOf (take (c - (b + 1)) (drop (b + 1) s))
           → Tells r [] (asMember x y z) → Tells r [] (memberOf (fieldsFrom from s))
-      three-fields n x y z i k u t = rw (fields-step s from a h p l, fields-step s (a + 1) b (omega arith) q m, fields-step s (b + 1) c (omega arith) r o, fields-end s (c + 1) (omega arith), ← i, ← k, ← u) t
+      three-fields n x y z i k u t =
+          rw (
+            fields-step s from a h p l,
+            fields-step s (a + 1) b (omega arith) q m,
+            fields-step s (b + 1) c (omega arith) r o,
+            fields-end s (c + 1) (omega arith),
+            ← i,
+            ← k,
+            ← u,
+          ) t
 
 -- a member line from its three fields
 pub member-read : (x : Number) (y : Signed) (z : Number) (n : ℕ) (b : ℤ) (l : ℕ) → SFits w64 b → x ≡ Value n → y ≡ Whole b → z ≡ Value l

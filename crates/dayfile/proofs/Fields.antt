@@ -36,7 +36,8 @@ more : List ℕ → List (List ℕ)
 more [] = []
 more (b ∷ t) = fieldsOf t
 
-split-by : (b : ℕ) (s : List ℕ) (p : Bool) → fieldsOf s ≡ take (upTo s) s ∷ more (drop (upTo s) s) → cond p ([] ∷ fieldsOf s) (onto b (fieldsOf s)) ≡ take (cond p 0 (suc (upTo s))) (b ∷ s) ∷ more (drop (cond p 0 (suc (upTo s))) (b ∷ s))
+split-by : (b : ℕ) (s : List ℕ) (p : Bool) → fieldsOf s ≡ take (upTo s) s ∷ more (drop (upTo s) s)
+    → cond p ([] ∷ fieldsOf s) (onto b (fieldsOf s)) ≡ take (cond p 0 (suc (upTo s))) (b ∷ s) ∷ more (drop (cond p 0 (suc (upTo s))) (b ∷ s))
 unfolding more
 split-by b s true i = refl
 split-by b s false i = rw i
@@ -55,7 +56,8 @@ more-end (b ∷ s) (suc k) h =
     more-end s k (omega arith) ∙ rw (e, leb·suc-suc (k + 1) (length s))
 
 -- the first field ends at the next tab, and the others begin behind it
-pub fields-step : (s : List ℕ) (at e : ℕ) → at ≤ length s → e ≡ at + upTo (drop at s) → e ≤ length s → fieldsFrom at s ≡ take (e - at) (drop at s) ∷ fieldsFrom (e + 1) s
+pub fields-step : (s : List ℕ) (at e : ℕ) → at ≤ length s → e ≡ at + upTo (drop at s) → e ≤ length s
+    → fieldsFrom at s ≡ take (e - at) (drop at s) ∷ fieldsFrom (e + 1) s
 fields-step s at e h q l =
     let u : e - at ≡ upTo (drop at s) = omega arith in
     let d : drop (upTo (drop at s)) (drop at s) ≡ drop e s = drop-drop (upTo (drop at s)) at s ∙ ap (λ (k : ℕ). drop k s) (sym q) in

@@ -45,7 +45,8 @@ step-full s at n h k =
 pub step-end : (s : List ℕ) (at n : ℕ) → length s < at → left s at n ≡ good []
 step-end s at n h = ap (numbersOf (mostCounts - n)) (fields-end s at h) ∙ none-left (mostCounts - n)
 
-pub step-field : (s : List ℕ) (at e n : ℕ) (m : Number) → at ≤ length s → e ≡ at + upTo (drop at s) → e ≤ length s → n < mostCounts → m ≡ numberOf (take (e - at) (drop at s)) → left s at n ≡ addTo m (left s (e + 1) (n + 1))
+pub step-field : (s : List ℕ) (at e n : ℕ) (m : Number) → at ≤ length s → e ≡ at + upTo (drop at s) → e ≤ length s → n < mostCounts
+    → m ≡ numberOf (take (e - at) (drop at s)) → left s at n ≡ addTo m (left s (e + 1) (n + 1))
 step-field s at e n m h q l k b =
     ap (numbersOf (mostCounts - n)) (fields-step s at e h q l)
     ∙ next-field (take (e - at) (drop at s)) (fieldsFrom (e + 1) s) (mostCounts - n) (mostCounts - (n + 1)) m (omega arith) (sym b)

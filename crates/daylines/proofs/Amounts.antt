@@ -51,7 +51,8 @@ module _ {T : Tables} (h : Holds T) where
 
   -- and their sum is small
   pub sum-small : (z : Counts) → Under (membersIn T) z (waits (houseIn T)) → sum (membersIn T) (sent (houseIn T) z) ≤ places * mostAmount
-  sum-small z u = omega (arith, sum-scaled (membersIn T) (sent (houseIn T) z) (waits (houseIn T)) (λ i l. sent-small z i (u i l)), waiting-sum h, h .counters .room)
+  sum-small z u =
+      omega (arith, sum-scaled (membersIn T) (sent (houseIn T) z) (waits (houseIn T)) (λ i l. sent-small z i (u i l)), waiting-sum h, h .counters .room)
 
 -- an accepted release is of a member with payments waiting
 pub record Heads (T : Tables) (m : ℕ) : Type 0 where

@@ -34,7 +34,8 @@ use Rattle.resolving.proofs.Resolves.{largest-books}
 use Rattle.dayfile.specs.Entries.{DayLine, pay, deposit, release, group, resolve}
 use Rattle.print.specs.declared.Says.{Says}
 use Rattle.print.specs.Room.{Ranges}
-use Rattle.daylines.specs.Calls.{refusal, lineOf, paySays, payDoes, depositSays, depositDoes, releaseSays, releaseDoes, groupSays, groupDoes, resolveDoes, callDoes}
+use Rattle.daylines.specs.Calls.{refusal, lineOf, paySays, payDoes, depositSays, depositDoes, releaseSays, releaseDoes, groupSays, groupDoes, resolveDoes}
+use Rattle.daylines.specs.Calls.{callDoes}
 use Rattle.daylines.proofs.Amounts.{queued-small, counts-few, sum-small, Heads, release-heads, verdict-small, size-small, lowest-small}
 
 -- ---- numbers in their ranges
@@ -73,7 +74,8 @@ module _ {n : ℕ} {a : List ℤ} (h : Accounts n a) where
   deposit-small : (i x : ℕ) → i < members → x ≤ mostAmount → natAbs (balanceOf a i +ℤ pos x) < 10 ^ 16
   deposit-small i x l q =
       let n = accounts-near h i l in
-      abs-small (balanceOf a i +ℤ pos x) (omega (arith, n .above, n .below, plus (balanceOf a i) (pos x))) (omega (arith, n .above, n .below, plus (balanceOf a i) (pos x)))
+      abs-small (balanceOf a i +ℤ pos x) (omega (arith, n .above, n .below, plus (balanceOf a i) (pos x)))
+      (omega (arith, n .above, n .below, plus (balanceOf a i) (pos x)))
 
 -- ---- what a call leaves, and what is said of it
 
@@ -83,7 +85,8 @@ pub record Kept (u : Outcome Says) : Type 0 where
 
 module _ (n : ℕ) (few : n < 10 ^ 7) (t : Tables) (h : Holds t) (narrow : (i : ℕ) → getD (t .counters) i 0 ≤ lastNumber) where
   -- a call's line, where it is kept if the request is fine
-  act-kept : {A : Type 0} (k : Act A) (say : A → Says) → ((r : Refusal) → say (k .refuse r) ≡ refusal n r) → (first (k .tests t) ≡ Fine → Kept (lineOf say (k .does t)))
+  act-kept : {A : Type 0} (k : Act A) (say : A → Says) → ((r : Refusal) → say (k .refuse r) ≡ refusal n r)
+      → (first (k .tests t) ≡ Fine → Kept (lineOf say (k .does t)))
       → Kept (lineOf say (held k t))
   unfolding held
   act-kept k say told f = go (first (k .tests t)) refl
@@ -109,10 +112,9 @@ module _ (n : ℕ) (few : n < 10 ^ 7) (t : Tables) (h : Holds t) (narrow : (i : 
   unfolding releaseAct
   release-kept m = act-kept (releaseAct m) (releaseSays n) (λ r. refl) (λ e.
       let d : Heads t m = release-heads e in
-      record {
-        holds = booked-holds h (onlyHead m) (release-books h m e);
-        ranges = (few, omega (arith, d .within, h .counters .few), omega (arith, narrow (settledAt + (m - 1))), omega (arith, queued-small h (m - 1) 0 (d .waiting)));
-      })
+      let w : m < 10 ^ 2 = omega (arith, d .within, h .counters .few) in
+      let q = queued-small h (m - 1) 0 (d .waiting) in
+      record { holds = booked-holds h (onlyHead m) (release-books h m e); ranges = (few, w, omega (arith, narrow (settledAt + (m - 1))), omega (arith, q)) })
 
   group-kept : (k : List ℕ) → Kept (groupDoes n t k)
   unfolding groupAct bookAct

@@ -53,15 +53,32 @@ least-same : (x w : ℕ) → w ≤ places → x ≤ w → x ≡ least x
 least-same x w f h = sym (ap (λ b. cond b x mostCount) (lt-ltb x mostCount (omega arith)))
 
 module _ (t : Tables) (h : Holds t) (k w : List ℕ) (same : length w ≡ length k) (are : (i : ℕ) → i < length k → getD w i 0 ≡ least (getD k i 0)) where
-  counts-in : (l : List ℕ) → isCounts (membersIn t) (houseIn t) l ≡ true → (length l ≡ membersIn t) × ((i : ℕ) → i < membersIn t → getD l i 0 ≤ waits (houseIn t) i)
+  counts-in : (l : List ℕ) → isCounts (membersIn t) (houseIn t) l ≡ true
+      → (length l ≡ membersIn t) × ((i : ℕ) → i < membersIn t → getD l i 0 ≤ waits (houseIn t) i)
   counts-in l e =
       let b = and-both (eqb (length l) (membersIn t)) (every (countAt (houseIn t) l) (membersIn t)) e in
       (eqb-true (length l) (membersIn t) (b .0), λ i q. leb-true (getD l i 0) (waits (houseIn t) i) (every-at (countAt (houseIn t) l) (membersIn t) i (b .1) q))
 
   both : (bk bw : Bool) → isCounts (membersIn t) (houseIn t) k ≡ bk → isCounts (membersIn t) (houseIn t) w ≡ bw
       → (w ≡ k) ⊎ ((isCounts (membersIn t) (houseIn t) k ≡ false) × (isCounts (membersIn t) (houseIn t) w ≡ false))
-  both true bw e f = let c = counts-in k e in inl (ext-getD 0 w k same (λ i q. let l : i < length k = omega arith in are i l ∙ sym (least-same (getD k i 0) (waits (houseIn t) i) (few-wait h i) (c .1 i (omega (arith, c .0))))))
-  both false true e f = let c = counts-in w f in inl (ext-getD 0 w k same (λ i q. let l : i < length k = omega arith in are i l ∙ sym (least-few (getD k i 0) (waits (houseIn t) i) (few-wait h i) (omega (arith, are i l, c .1 i (omega (arith, c .0)))))))
+  both true bw e f = inl (ext-getD 0 w k same at)
+    where
+      c : (length k ≡ membersIn t) × ((i : ℕ) → i < membersIn t → getD k i 0 ≤ waits (houseIn t) i)
+      c = counts-in k e
+
+      at : (i : ℕ) → i < length w → getD w i 0 ≡ getD k i 0
+      at i q =
+          let l : i < length k = omega arith in
+          are i l ∙ sym (least-same (getD k i 0) (waits (houseIn t) i) (few-wait h i) (c .1 i (omega (arith, c .0))))
+  both false true e f = inl (ext-getD 0 w k same at)
+    where
+      c : (length w ≡ membersIn t) × ((i : ℕ) → i < membersIn t → getD w i 0 ≤ waits (houseIn t) i)
+      c = counts-in w f
+
+      at : (i : ℕ) → i < length w → getD w i 0 ≡ getD k i 0
+      at i q =
+          let l : i < length k = omega arith in
+          are i l ∙ sym (least-few (getD k i 0) (waits (houseIn t) i) (few-wait h i) (omega (arith, are i l, c .1 i (omega (arith, c .0)))))
   both false false e f = inr (e, f)
 
   -- a group by counts in 16 bits is the group by the numbers read
@@ -78,7 +95,12 @@ pub group-narrowed : (t : Tables) → Holds t → (m : ℕ) (counts r : List ℕ
 group-narrowed t h m counts r few l e f =
     let u = length-take-le m counts l in
     let v = length-take-le m r (omega arith) in
-    group-same t h (take m counts) (take m r) (omega arith) (λ i q. let j : i < m = omega arith in getD-take m r i 0 j ∙ f i j ∙ ap least (sym (getD-take m counts i 0 j)))
+    group-same t h (take m counts) (take m r) (omega arith) at
+  where
+    at : (i : ℕ) → i < length (take m counts) → getD (take m r) i 0 ≡ least (getD (take m counts) i 0)
+    at i q =
+        let j : i < m = omega (arith, length-take-le m counts l) in
+        getD-take m r i 0 j ∙ f i j ∙ ap least (sym (getD-take m counts i 0 j))
 
 -- ---- the largest allowed set
 
@@ -93,7 +115,8 @@ number-named n H z = go (eqb (sum n (waits H)) 0) (eqb (sum n z) 0) (eqb (sum n 
     go false false false = refl
 
 -- an accepted resolution says and leaves what its line does
-pub resolve-line : (t : Tables) (n : ℕ) (k : List ℕ) → Holds t → length k ≡ membersIn t → {x : Resolution} {l : List ℕ} {W : Tables} → outcome (Done x, l) W ≡ held (resolveAct k) t
+pub resolve-line : (t : Tables) (n : ℕ) (k : List ℕ) → Holds t → length k ≡ membersIn t → {x : Resolution} {l : List ℕ} {W : Tables}
+    → outcome (Done x, l) W ≡ held (resolveAct k) t
     → outcome (resolutionSays n x) W ≡ resolveDoes n t
 unfolding resolveAct
 resolve-line t n k h e {x} {l} {W} o =
@@ -109,7 +132,8 @@ resolve-line t n k h e {x} {l} {W} o =
     done-one e = cc
 
 -- it is never refused where the lent list is as long as the member count
-pub never-refused : (t : Tables) (k : List ℕ) (r : Refusal) → length k ≡ membersIn t → {l : List ℕ} {W : Tables} → outcome (Refused r, l) W ≡ held (resolveAct k) t → ⊥
+pub never-refused : (t : Tables) (k : List ℕ) (r : Refusal) → length k ≡ membersIn t → {l : List ℕ} {W : Tables}
+    → outcome (Refused r, l) W ≡ held (resolveAct k) t → ⊥
 unfolding resolveAct
 never-refused t k r e o =
     let d = o ∙ held-fine (resolveAct k) t (rw (eq-eqb (length k) (membersIn t) e)) in

@@ -42,7 +42,8 @@ read-small {e} {vs} r = go e (r .small)
     go E.Bad s = tt
 
 -- the numbers of a member line are small
-pub small-at : {e : Entry} {o : OpeningLine} (m : ℕ) (b : ℤ) (l : ℕ) → e ≡ E.Opening o → o ≡ O.Member m b l → SmallMember e → (natAbs b < 10 ^ mostDigits) × (l < 10 ^ mostDigits)
+pub small-at : {e : Entry} {o : OpeningLine} (m : ℕ) (b : ℤ) (l : ℕ) → e ≡ E.Opening o → o ≡ O.Member m b l → SmallMember e
+    → (natAbs b < 10 ^ mostDigits) × (l < 10 ^ mostDigits)
 small-at m b l q p s = let r = subst (λ (o : OpeningLine). SmallMember (E.Opening o)) p (subst SmallMember q s) in (r .1, r .2)
 
 -- in the opening no counts are looked at

@@ -28,7 +28,8 @@ use Rattle.print.specs.declared.Says.the-variants as S
 use Rattle.daylines.proofs.Kept.{code-small, balance-small, money-small, call-kept}
 use Rattle.night.specs.declared.Stage.{Stage}
 use Rattle.night.specs.declared.Stage.the-variants as G
-use Rattle.night.specs.Lines.{Did, quiet, stops, strays, houseDoes, given, balancesGiven, linesGiven, opensTo, openDoes, givenDoes, memberDoes, dayDoes, doesOf, balanceSays, endAt}
+use Rattle.night.specs.Lines.{Did, quiet, stops, strays, houseDoes, given, balancesGiven, linesGiven, opensTo, openDoes, givenDoes, memberDoes, dayDoes}
+use Rattle.night.specs.Lines.{doesOf, balanceSays, endAt}
 use Rattle.night.specs.Stands.{Giving, Stands, SaidRanges}
 
 -- ---- what a line leaves
@@ -43,7 +44,8 @@ module _ (n : ℕ) (few : n < 10 ^ 7) where
 
   -- ---- the opening
 
-  house-by : (count : ℕ) (t : Tables) → Stands G.House t → (b : Bool) → (leb 1 count && leb count members) ≡ b → Kept (cond b (quiet (G.Members count 0) t) (stops n R.Opening t))
+  house-by : (count : ℕ) (t : Tables) → Stands G.House t → (b : Bool) → (leb 1 count && leb count members) ≡ b
+      → Kept (cond b (quiet (G.Members count 0) t) (stops n R.Opening t))
   house-by count t s true e =
       let q = and-both (leb 1 count) (leb count members) e in
       record { stands = record { few = leb-true count members (q .1); next = leb-true 1 count (q .0); sized = s }; ranges = tt }
@@ -67,7 +69,9 @@ module _ (n : ℕ) (few : n < 10 ^ 7) where
       l = linesGiven count t
 
       go : (j : Judged) → first (openAct count b l .tests t) ≡ j → Kept (opensTo n count (decided (openAct count b l) t j))
-      go Fine e = let o : Opens t count b l = open-fine e in record { stands = opens-hold o; ranges = ((few, omega arith, rw (sym (opens-money o)) (money-small (opens-hold o .accounts))), tt) }
+      go Fine e =
+          let o : Opens t count b l = open-fine e in
+          record { stands = opens-hold o; ranges = ((few, omega arith, rw (sym (opens-money o)) (money-small (opens-hold o .accounts))), tt) }
       go (Bad r) e = record { stands = tt; ranges = ((few, code-small r), tt) }
 
   given-kept : (count k : ℕ) (t : Tables) (b : ℤ) (l : ℕ) → Giving count k t → Giving count k (given t k b l)
@@ -77,7 +81,8 @@ module _ (n : ℕ) (few : n < 10 ^ 7) where
     sized = record { long = simp length-set (g .sized .long); broad = g .sized .broad; deep = g .sized .deep };
   }
 
-  given-by : (count k : ℕ) (t : Tables) → Giving count k t → (b : Bool) → ltb (k + 1) count ≡ b → Kept (cond b (quiet (G.Members count (k + 1)) t) (openDoes n count t))
+  given-by : (count k : ℕ) (t : Tables) → Giving count k t → (b : Bool) → ltb (k + 1) count ≡ b
+      → Kept (cond b (quiet (G.Members count (k + 1)) t) (openDoes n count t))
   given-by count k t g true e = record { stands = record { few = g .few; next = ltb-true (k + 1) count e; sized = g .sized }; ranges = tt }
   given-by count k t g false e = open-kept count t (g .few)
 

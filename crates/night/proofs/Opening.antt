@@ -64,7 +64,8 @@ module _ (n : ℕ) (t : Tables) {e : Entry} {o : OpeningLine} (p : e ≡ E.Openi
     house-opens h l = rw (p, q, le-leb 1 count h, le-leb count members l)
 
 -- what was stored is what was given
-pub give-did : (a a₁ : List ℤ) (k : ℕ) (b : ℤ) (l : ℕ) → natAbs b < 10 ^ mostDigits → a₁ ≡ set (set a k (toZ w64 (ofZ w64 b))) (linesAt + k) (pos l) → a₁ ≡ set (set a k b) (linesAt + k) (pos l)
+pub give-did : (a a₁ : List ℤ) (k : ℕ) (b : ℤ) (l : ℕ) → natAbs b < 10 ^ mostDigits → a₁ ≡ set (set a k (toZ w64 (ofZ w64 b))) (linesAt + k) (pos l)
+    → a₁ ≡ set (set a k b) (linesAt + k) (pos l)
 give-did a a₁ k b l h q = q ∙ rw (toZ-ofZ {w = w64} (held-small b h))
 
 -- any line but one of the opening stops the night,
@@ -105,9 +106,11 @@ module _ (n count : ℕ) (t : Tables) (r : Does) (o : Opened) where
       → r ≡ record { said = One (openSays n count o); stage = openStage o }
   open-accepted s h e q = q ∙ rw (e, toZ-ofZ {w = w64} (held s h))
 
-  pub open-refused : (k : Refusal) → o ≡ opens.Refused k → r ≡ record { said = One (refusal n k); stage = G.Over } → r ≡ record { said = One (openSays n count o); stage = openStage o }
+  pub open-refused : (k : Refusal) → o ≡ opens.Refused k → r ≡ record { said = One (refusal n k); stage = G.Over }
+      → r ≡ record { said = One (openSays n count o); stage = openStage o }
   open-refused k e q = q ∙ rw e
 
   pub open-did : {W : Tables} (b l : List ℤ) → r ≡ record { said = One (openSays n count o); stage = openStage o }
-      → b ≡ balancesGiven count t → l ≡ linesGiven count t → outcome o W ≡ heldOn (openAct count b l) t → did r (W .accounts) (W .counters) (W .pays) ≡ openDoes n count t
+      → b ≡ balancesGiven count t → l ≡ linesGiven count t → outcome o W ≡ heldOn (openAct count b l) t
+      → did r (W .accounts) (W .counters) (W .pays) ≡ openDoes n count t
   open-did b l q eb el eo = rw (q, sym eb, sym el) (ap (opensTo n count) eo)

@@ -29,8 +29,10 @@ shared-slice-read-if2-2 c = search needs
 
 returns-2 : tie.Need-returns-2 Inv-loop μ-loop
 returns-2 c =
+    let u = c .before .before .before .before .before in
+    let v = u .before in
     let l = c .before .before .before .before .loop in
-    let a = c .before .before .before .before .before .before .args in
+    let a = v .args in
     sym (l .inv .2 ∙ same-differ (a .a .now) (a .b .now) (l .i) (omega arith) (omega arith) (c .if2 .taken))
 
 add-i : tie.Need-add-i Inv-loop μ-loop
@@ -41,8 +43,10 @@ loop-less c = search needs
 
 loop-again : tie.Need-loop-again Inv-loop μ-loop
 loop-again c =
+    let u = c .before .before .before .before .before in
+    let v = u .before in
     let l = c .before .before .before .before .loop in
-    let a = c .before .before .before .before .before .before .args in
+    let a = v .args in
     (omega arith, l .inv .1, l .inv .2 ∙ same-step (a .a .now) (a .b .now) (l .i) (omega arith) (omega arith) (c .if2 .left))
 
 returns-3 : tie.Need-returns-3 Inv-loop μ-loop

@@ -33,7 +33,9 @@ returns-3 c = search needs
 
 returns-4 : tie.Need-returns-4
 returns-4 c =
-    let n = c .before .before .before .before .before .before .before .number .given in
+    let u = c .before .before .before .before .before in
+    let v = u .before .before in
+    let n = v .number .given in
     let b = c .before .before .before .before .balance .given in
     let l = c .before .limit .given in
     member-read _ _ _ (n .0 .0) (b .0 .0) (l .0 .0) (record { sfits = c .before .before .before .known-told2 .given .0 .1 }) (n .1) (b .1) (l .1)

@@ -40,22 +40,34 @@ returns c =
 
 shape-requires : tie.Need-shape-requires
 shape-requires c κs =
-    let n = c .before .before .before .before .before .before .read-numbers in
-    let s = c .before .before .before .before .before .before .before .before .before .before .before .before in
-    let m = c .before .before .m .given in
-    (search needs, count-few (fieldsFrom (s .args .e + 1) (s .args .line .now)) (n .result) (m .0 .0) (s .args .counts .now) (n .last .1 .1 .0) (n .ensures .0) (m .1) (s .pre .1) (n .ensures .1))
+    let u = c .before .before .before .before .before in
+    let v = u .before in
+    let w = v .before .before .before .before .before in
+    let s = w .before in
+    let n = v .read-numbers in
+    let m = c .before .before .m .given in (
+      search needs,
+      count-few (fieldsFrom (s .args .e + 1) (s .args .line .now)) (n .result) (m .0 .0) (s .args .counts .now) (n .last .1 .1 .0) (n .ensures .0)
+          (m .1) (s .pre .1) (n .ensures .1),
+    )
 
 same-length-2 : tie.Need-same-length-2
 same-length-2 c = search needs
 
 returns-2 : tie.Need-returns-2
 returns-2 c =
-    let n = c .before .before .before .before .before .before .before .read-numbers in
-    let k = c .before .before .before .before .before .before .before .before .before .kind-of in
+    let u = c .before .before .before .before .before in
+    let v = u .before .before in
+    let w = v .before .before in
+    let s = w .before .before .before .before in
+    let n = v .read-numbers in
+    let k = w .kind-of in
     let m = c .before .before .before .m .given in
-    let s = c .before .before .before .before .before .before .before .before .before .before .before .before .before in
-    let a = s .args in
-    (count-good (fieldsFrom (a .e + 1) (a .line .now)) (n .result) (m .0 .0) (a .counts .now) (n .last .1 .1 .0) (n .ensures .0) (m .1) (s .pre .1) (n .ensures .1) (k .result) (kindOf (take (a .e) (a .line .now))) (k .ensures) (c .shape .ensures), n .ensures .1)
+    let a = s .args in (
+      count-good (fieldsFrom (a .e + 1) (a .line .now)) (n .result) (m .0 .0) (a .counts .now) (n .last .1 .1 .0) (n .ensures .0) (m .1) (s .pre .1)
+          (n .ensures .1) (k .result) (kindOf (take (a .e) (a .line .now))) (k .ensures) (c .shape .ensures),
+      n .ensures .1,
+    )
 
 pub read-kind-spec : {M : Type 1} → statement M
 read-kind-spec =

@@ -30,7 +30,8 @@ returns c =
     let a = u .before .before .before .args in
     let t = u .next-tab in
     let q = c .before .before .equal in
-    line-member (a .line .now) (t .result) (t .ensures .0) (t .ensures .2) (q .result) (q .ensures) (c .before .if1 .taken) (a .counts .now) (c .read-member .ensures)
+    line-member (a .line .now) (t .result) (t .ensures .0) (t .ensures .2) (q .result) (q .ensures) (c .before .if1 .taken) (a .counts .now)
+    (c .read-member .ensures)
 
 read-kind-requires : tie.Need-read-kind-requires
 read-kind-requires c κs = search needs
@@ -46,7 +47,8 @@ returns-2 c =
     let q = i .before .equal in
     let k = c .before .before .read-kind in
     let a = u .before .before .before .args in
-    line-kind (a .line .now) (t .result) (t .ensures .0) (t .ensures .2) (q .result) (q .ensures) (i .if1 .left) (a .counts .now) (k .last .1 .1 .0) (k .ensures .0) (k .ensures .1)
+    line-kind (a .line .now) (t .result) (t .ensures .0) (t .ensures .2) (q .result) (q .ensures) (i .if1 .left) (a .counts .now) (k .last .1 .1 .0)
+    (k .ensures .0) (k .ensures .1)
 
 pub read-line-spec : {M : Type 1} → statement M
 read-line-spec =

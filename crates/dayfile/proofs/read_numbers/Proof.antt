@@ -33,7 +33,8 @@ returns c =
     let l = c .before .before .loop in
     let a = c .before .before .before .before .before .args in
     let w = numbersOf mostCounts (fieldsFrom (a .from) (a .line .now)) in
-    turn-stop (a .line .now) w (a .counts .now) (l .counts) (l .at) (l .n) (l .inv) (short []) (step-full (a .line .now) (l .at) (l .n) (omega arith) (omega arith))
+    turn-stop (a .line .now) w (a .counts .now) (l .counts) (l .at) (l .n) (l .inv) (short [])
+    (step-full (a .line .now) (l .at) (l .n) (omega arith) (omega arith))
 
 next-tab-requires : tie.Need-next-tab-requires Inv-loop μ-loop
 next-tab-requires c κs = search needs
@@ -48,16 +49,23 @@ enum-told : tie.Need-enum-told Inv-loop μ-loop
 enum-told c = search needs
 
 same-length-2 : tie.Need-same-length-2 Inv-loop μ-loop
-same-length-2 c = omega (arith, c .before .before .before .before .before .before .before .before .before .pre)
+same-length-2 c =
+    let u = c .before .before .before .before .before in
+    let v = u .before .before .before .before in
+    omega (arith, v .pre)
 
 returns-2 : tie.Need-returns-2 Inv-loop μ-loop
 returns-2 c =
-    let l = c .before .before .before .before .before .before .loop in
+    let u = c .before .before .before .before .before in
+    let v = u .before in
+    let x = v .before .before .before in
+    let l = v .loop in
     let e = c .before .before .before .next-tab in
-    let a = c .before .before .before .before .before .before .before .before .before .args in
+    let a = x .args in
     let w = numbersOf mostCounts (fieldsFrom (a .from) (a .line .now)) in
     let m : Bad ≡ numberOf (take (e .result - l .at) (drop (l .at) (a .line .now))) = sym (c .enum-told .given .1) ∙ c .before .before .number-at .ensures in
-    turn-stop (a .line .now) w (a .counts .now) (l .counts) (l .at) (l .n) (l .inv) (short []) (step-field (a .line .now) (l .at) (e .result) (l .n) Bad (omega arith) (e .ensures .0) (omega arith) (omega arith) m)
+    turn-stop (a .line .now) w (a .counts .now) (l .counts) (l .at) (l .n) (l .inv) (short [])
+    (step-field (a .line .now) (l .at) (e .result) (l .n) Bad (omega arith) (e .ensures .0) (omega arith) (omega arith) m)
 
 mul-counts : tie.Need-mul-counts Inv-loop μ-loop
 mul-counts c = search needs
@@ -76,13 +84,18 @@ loop-less c = search needs
 
 loop-again : tie.Need-loop-again Inv-loop μ-loop
 loop-again c =
-    let l = c .before .before .before .before .before .before .before .loop in
+    let u = c .before .before .before .before .before in
+    let v = u .before .before in
+    let y = v .before .before .before in
+    let l = v .loop in
     let e = c .before .before .before .before .next-tab in
     let x = c .before .x .given .0 .0 in
-    let a = c .before .before .before .before .before .before .before .before .before .before .args in
+    let a = y .args in
     let w = numbersOf mostCounts (fieldsFrom (a .from) (a .line .now)) in
-    let m : Value x ≡ numberOf (take (e .result - l .at) (drop (l .at) (a .line .now))) = sym (c .before .x .given .1) ∙ c .before .before .before .number-at .ensures in
-    turn-on (a .line .now) w (a .counts .now) (l .counts) (l .at) (l .n) (l .inv) (e .result) x (omega arith) (step-field (a .line .now) (l .at) (e .result) (l .n) (Value x) (omega arith) (e .ensures .0) (omega arith) (omega arith) m)
+    let m : Value x ≡ numberOf (take (e .result - l .at) (drop (l .at) (a .line .now))) =
+    sym (c .before .x .given .1) ∙ c .before .before .before .number-at .ensures in
+    turn-on (a .line .now) w (a .counts .now) (l .counts) (l .at) (l .n) (l .inv) (e .result) x (omega arith)
+    (step-field (a .line .now) (l .at) (e .result) (l .n) (Value x) (omega arith) (e .ensures .0) (omega arith) (omega arith) m)
 
 same-length-3 : tie.Need-same-length-3 Inv-loop μ-loop
 same-length-3 c = omega (arith, c .before .before .before .before .pre)

@@ -1,7 +1,7 @@
 -- `dayfile::shape` meets its contract. Each kind has its number of fields.
 use native.Mathlib.Omega.{arith}
 use borrow.Author.Needs.{needs}
-use Rattle.dayfile.proofs.Entries.{tells-bad, kind-house, kind-pay, kind-deposit, kind-release, kind-group, kind-resolve, kind-end}
+use Rattle.dayfile.proofs.Entries.{kind-house, kind-pay, kind-deposit, kind-release, kind-group, kind-resolve, kind-end}
 use Rattle.dayfile.proofs.shape.Statement.{statement}
 use Rattle.dayfile.proofs.shape.Tie as tie
 

@@ -23,13 +23,22 @@ same-length : tie.Need-same-length
 same-length c = search needs
 
 returns : tie.Need-returns
-returns c = let s = c .before .before .before .before .before .before .before .before .args in let f = c .known-told .given .0 .1 in simp plain (ap (lineOf (depositSays (s .n) (s .member))) (answer-is (c .before .r .given .1) (c .before .before .before .before .deposit .ensures)))
+returns c =
+    let u = c .before .before .before .before .before in
+    let v = u .before .before .before in
+    let s = v .args in
+    let f = c .known-told .given .0 .1 in
+    simp plain (ap (lineOf (depositSays (s .n) (s .member))) (answer-is (c .before .r .given .1) (c .before .before .before .before .deposit .ensures)))
 
 same-length-2 : tie.Need-same-length-2
 same-length-2 c = search needs
 
 returns-2 : tie.Need-returns-2
-returns-2 c = let s = c .before .before .before .before .before .before .before .before .before .args in rw (c .refused .ensures) (ap (lineOf (depositSays (s .n) (s .member))) (answer-is (c .before .before .r2 .given .1) (c .before .before .before .before .before .deposit .ensures)))
+returns-2 c =
+    let u = c .before .before .before .before .before in
+    let v = u .before .before .before .before in
+    let s = v .args in
+    rw (c .refused .ensures) (ap (lineOf (depositSays (s .n) (s .member))) (answer-is (c .before .before .r2 .given .1) (u .deposit .ensures)))
 
 pub deposit-spec : {M : Type 1} → statement M
 deposit-spec =

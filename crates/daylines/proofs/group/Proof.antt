@@ -2,7 +2,7 @@
 use mathlib.Core.Path.{ap, _∙_}
 use lib.ListN.{length-take}
 use native.Mathlib.Omega.{arith}
-use Rattle.tables.specs.Layout.{tables}
+use Rattle.tables.specs.Layout.{Tables, tables}
 use Rattle.answers.proofs.Outcomes.{answer-is}
 use Rattle.daylines.specs.Calls.{lineOf, groupSays}
 use Rattle.daylines.proofs.Settling.{group-narrowed}
@@ -17,7 +17,10 @@ array-share-prefix-k : tie.Need-array-share-prefix-k
 array-share-prefix-k c = search needs
 
 slice-aggregate-group : tie.Need-slice-aggregate-group
-slice-aggregate-group c = simp length-take (omega (arith, c .before .before .before .before .narrowed .ensures .0, c .before .before .before .before .before .before .before .before .pre .1))
+slice-aggregate-group c =
+    let u = c .before .before .before .before .before in
+    let v = u .before .before .before in
+    simp length-take (omega (arith, c .before .before .before .before .narrowed .ensures .0, v .pre .1))
 
 group-requires : tie.Need-group-requires
 group-requires c κs = search needs
@@ -41,7 +44,15 @@ same-length-3 : tie.Need-same-length-3
 same-length-3 c = search needs
 
 returns : tie.Need-returns
-returns c = let s = c .before .before .before .before .before .before .before .before .before .before .before .before .before .before .before .before .before in ap (lineOf (groupSays (s .args .n))) (answer-is (c .before .r .given .1) (c .before .before .before .before .before .before .before .before .group .ensures ∙ group-narrowed (tables (s .args .accounts .now) (s .args .counters .now) (s .args .pays .now)) (s .pre .0) (s .args .m) (s .args .counts .now) (c .before .before .before .before .before .before .before .before .before .before .before .before .before .narrowed .result) (s .pre .1) (s .pre .2) (c .before .before .before .before .before .before .before .before .before .before .before .before .before .narrowed .ensures .0) (c .before .before .before .before .before .before .before .before .before .before .before .before .before .narrowed .ensures .1)))
+returns c =
+    let u = c .before .before .before .before .before in
+    let v = u .before .before .before in
+    let w = v .before .before .before .before .before in
+    let s = w .before .before .before .before in
+    let t : Tables = tables (s .args .accounts .now) (s .args .counters .now) (s .args .pays .now) in
+    let n = w .narrowed in
+    let same = group-narrowed t (s .pre .0) (s .args .m) (s .args .counts .now) (n .result) (s .pre .1) (s .pre .2) (n .ensures .0) (n .ensures .1) in
+    ap (lineOf (groupSays (s .args .n))) (answer-is (c .before .r .given .1) (v .group .ensures ∙ same))
 
 same-length-4 : tie.Need-same-length-4
 same-length-4 c = search needs
@@ -53,7 +64,15 @@ same-length-6 : tie.Need-same-length-6
 same-length-6 c = search needs
 
 returns-2 : tie.Need-returns-2
-returns-2 c = let s = c .before .before .before .before .before .before .before .before .before .before .before .before .before .before .before .before .before .before in rw (c .refused .ensures) (ap (lineOf (groupSays (s .args .n))) (answer-is (c .before .before .r2 .given .1) (c .before .before .before .before .before .before .before .before .before .group .ensures ∙ group-narrowed (tables (s .args .accounts .now) (s .args .counters .now) (s .args .pays .now)) (s .pre .0) (s .args .m) (s .args .counts .now) (c .before .before .before .before .before .before .before .before .before .before .before .before .before .before .narrowed .result) (s .pre .1) (s .pre .2) (c .before .before .before .before .before .before .before .before .before .before .before .before .before .before .narrowed .ensures .0) (c .before .before .before .before .before .before .before .before .before .before .before .before .before .before .narrowed .ensures .1))))
+returns-2 c =
+    let u = c .before .before .before .before .before in
+    let v = u .before .before .before .before in
+    let w = v .before .before .before .before .before in
+    let s = w .before .before .before .before in
+    let t : Tables = tables (s .args .accounts .now) (s .args .counters .now) (s .args .pays .now) in
+    let n = w .narrowed in
+    let same = group-narrowed t (s .pre .0) (s .args .m) (s .args .counts .now) (n .result) (s .pre .1) (s .pre .2) (n .ensures .0) (n .ensures .1) in
+    rw (c .refused .ensures) (ap (lineOf (groupSays (s .args .n))) (answer-is (c .before .before .r2 .given .1) (v .group .ensures ∙ same)))
 
 pub group-spec : {M : Type 1} → statement M
 group-spec =

@@ -41,8 +41,12 @@ loop-less c = omega arith
 
 loop-again : tie.Need-loop-again Inv-loop μ-loop
 loop-again c =
-    let l = c .before .before .before .loop in
-    (simp length-set (l .inv .0), omega arith, least-turn (c .before .before .before .before .before .args .counts .now) (l .k) (l .i) (c .narrow .result) (omega arith) (c .narrow .ensures) (l .inv .2))
+    let l = c .before .before .before .loop in (
+      simp length-set (l .inv .0),
+      omega arith,
+      least-turn (c .before .before .before .before .before .args .counts .now) (l .k) (l .i) (c .narrow .result)
+          (omega arith) (c .narrow .ensures) (l .inv .2),
+    )
 
 returns : tie.Need-returns Inv-loop μ-loop
 returns c = (c .before .loop .inv .0, λ i h. c .before .loop .inv .2 i (omega arith))

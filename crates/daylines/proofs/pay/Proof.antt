@@ -25,7 +25,12 @@ same-length-2 : tie.Need-same-length-2
 same-length-2 c = search needs
 
 returns : tie.Need-returns
-returns c = let s = c .before .before .before .before .before .before .before .before .before .before .before .args in ap (lineOf (paySays (s .n) (s .payer) (s .number))) (answer-is (c .enum-told .given .1) (c .before .before .before .before .before .before .submit .ensures))
+returns c =
+    let u = c .before .before .before .before .before in
+    let v = u .before in
+    let w = v .before .before .before .before .before in
+    let s = w .args in
+    ap (lineOf (paySays (s .n) (s .payer) (s .number))) (answer-is (c .enum-told .given .1) (v .submit .ensures))
 
 same-length-3 : tie.Need-same-length-3
 same-length-3 c = search needs
@@ -34,7 +39,12 @@ same-length-4 : tie.Need-same-length-4
 same-length-4 c = search needs
 
 returns-2 : tie.Need-returns-2
-returns-2 c = let s = c .before .before .before .before .before .before .before .before .before .before .before .before .before .args in rw (c .refused .ensures) (ap (lineOf (paySays (s .n) (s .payer) (s .number))) (answer-is (c .before .before .r .given .1) (c .before .before .before .before .before .before .before .before .submit .ensures)))
+returns-2 c =
+    let u = c .before .before .before .before .before in
+    let v = u .before .before .before in
+    let w = v .before .before .before .before .before in
+    let s = w .args in
+    rw (c .refused .ensures) (ap (lineOf (paySays (s .n) (s .payer) (s .number))) (answer-is (c .before .before .r .given .1) (v .submit .ensures)))
 
 pub pay-spec : {M : Type 1} → statement M
 pay-spec =

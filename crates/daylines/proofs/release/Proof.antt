@@ -28,7 +28,13 @@ same-length-3 : tie.Need-same-length-3
 same-length-3 c = search needs
 
 returns : tie.Need-returns
-returns c = let s = c .before .before .before .before .before .before .before .before .before .before .before .before .before .before .args in ap (lineOf (releaseSays (s .n))) (answer-is (c .before .r .given .1) (c .before .before .before .before .before .before .before .before .release .ensures))
+returns c =
+    let u = c .before .before .before .before .before in
+    let v = u .before .before .before in
+    let w = v .before .before .before .before .before in
+    let x = w .before in
+    let s = x .args in
+    ap (lineOf (releaseSays (s .n))) (answer-is (c .before .r .given .1) (v .release .ensures))
 
 same-length-4 : tie.Need-same-length-4
 same-length-4 c = search needs
@@ -40,7 +46,13 @@ same-length-6 : tie.Need-same-length-6
 same-length-6 c = search needs
 
 returns-2 : tie.Need-returns-2
-returns-2 c = let s = c .before .before .before .before .before .before .before .before .before .before .before .before .before .before .before .args in rw (c .refused .ensures) (ap (lineOf (releaseSays (s .n))) (answer-is (c .before .before .r2 .given .1) (c .before .before .before .before .before .before .before .before .before .release .ensures)))
+returns-2 c =
+    let u = c .before .before .before .before .before in
+    let v = u .before .before .before .before in
+    let w = v .before .before .before .before .before in
+    let x = w .before in
+    let s = x .args in
+    rw (c .refused .ensures) (ap (lineOf (releaseSays (s .n))) (answer-is (c .before .before .r2 .given .1) (v .release .ensures)))
 
 pub release-spec : {M : Type 1} → statement M
 release-spec =

@@ -1,8 +1,11 @@
 -- `daylines::resolve` meets its contract: no loop.
-use lib.ListN.{take, replicate, length-take}
+use mathlib.Core.Path.{_≡_}
+use mathlib.Core.List.{List}
+use Prim.Native.Nat.{ℕ}
+use lib.ListN.{length, take, replicate, length-take}
 use native.Mathlib.Omega.{arith}
 use Rattle.tables.specs.Sizes.{members}
-use Rattle.tables.specs.Layout.{tables}
+use Rattle.tables.specs.Layout.{Tables, tables, membersIn}
 use Rattle.daylines.proofs.Settling.{resolve-line, never-refused}
 use borrow.Author.Needs.{needs}
 use Rattle.daylines.proofs.resolve.Statement.{statement}
@@ -18,7 +21,10 @@ array-borrow-prefix-k : tie.Need-array-borrow-prefix-k
 array-borrow-prefix-k c = search needs
 
 slice-aggregate-resolve : tie.Need-slice-aggregate-resolve
-slice-aggregate-resolve c = simp length-take (omega (arith, c .before .before .before .before .before .before .before .before .pre .counters .few))
+slice-aggregate-resolve c =
+    let u = c .before .before .before .before .before in
+    let v = u .before .before .before in
+    simp length-take (omega (arith, v .pre .counters .few))
 
 resolve-requires : tie.Need-resolve-requires
 resolve-requires c κs = search needs
@@ -46,8 +52,14 @@ same-length-3 c = search needs
 
 returns : tie.Need-returns
 returns c =
-    let s = c .before .before .before .before .before .before .before .before .before .before .before .before .before .before .before .before .before .before .before in
-    rw (c .told .ensures) (resolve-line (tables (s .args .accounts .now) (s .args .counters .now) (s .args .pays .now)) (s .args .n) (take (c .before .before .before .before .before .before .before .before .before .before .before .before .before .before .before .wide .result) (replicate members 0)) (s .pre) (simp length-take (omega (arith, c .before .before .before .before .before .before .before .before .before .before .before .before .before .before .before .wide .ensures, s .pre .counters .few))) (rw (c .before .before .r .given .1) at (c .before .before .before .before .before .before .before .before .before .before .resolve .ensures .0)))
+    let u = c .before .before .before .before .before in
+    let v = u .before .before .before .before .before in
+    let w = v .before .before .before .before .before in
+    let s = w .before .before .before .before in
+    let t : Tables = tables (s .args .accounts .now) (s .args .counters .now) (s .args .pays .now) in
+    let k : List ℕ = take (w .wide .result) (replicate members 0) in
+    let long : length k ≡ membersIn t = simp length-take (omega (arith, w .wide .ensures, s .pre .counters .few)) in
+    rw (c .told .ensures) (resolve-line t (s .args .n) k (s .pre) long (rw (c .before .before .r .given .1) at (v .resolve .ensures .0)))
 
 same-length-4 : tie.Need-same-length-4
 same-length-4 c = search needs
@@ -60,8 +72,15 @@ same-length-6 c = search needs
 
 returns-2 : tie.Need-returns-2
 returns-2 c =
-    let s = c .before .before .before .before .before .before .before .before .before .before .before .before .before .before .before .before .before .before .before in
-    absurd (never-refused (tables (s .args .accounts .now) (s .args .counters .now) (s .args .pays .now)) (take (c .before .before .before .before .before .before .before .before .before .before .before .before .before .before .before .wide .result) (replicate members 0)) (c .before .before .r2 .given .0 .0) (simp length-take (omega (arith, c .before .before .before .before .before .before .before .before .before .before .before .before .before .before .before .wide .ensures, s .pre .counters .few))) (rw (c .before .before .r2 .given .1) at (c .before .before .before .before .before .before .before .before .before .before .resolve .ensures .0)))
+    let u = c .before .before .before .before .before in
+    let v = u .before .before .before .before .before in
+    let w = v .before .before .before .before .before in
+    let s = w .before .before .before .before in
+    let t : Tables = tables (s .args .accounts .now) (s .args .counters .now) (s .args .pays .now) in
+    let k : List ℕ = take (w .wide .result) (replicate members 0) in
+    let long : length k ≡ membersIn t = simp length-take (omega (arith, w .wide .ensures, s .pre .counters .few)) in
+    let r = c .before .before .r2 .given in
+    absurd (never-refused t k (r .0 .0) long (rw (r .1) at (v .resolve .ensures .0)))
 
 pub resolve-spec : {M : Type 1} → statement M
 resolve-spec =

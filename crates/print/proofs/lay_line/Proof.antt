@@ -1,5 +1,4 @@
 -- `print::lay_line` meets its contract. The row of the line is written.
-use native.Mathlib.Omega.{arith}
 use lib.Seq.{length-take-le}
 use mathlib.Core.Path.{sym}
 use borrow.Author.Needs.{needs}

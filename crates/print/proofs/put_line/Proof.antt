@@ -3,8 +3,6 @@ use mathlib.Core.Path.{ap}
 use Prim.Native.Nat.{ℕ, _+_}
 use native.Mathlib.Omega.{arith}
 use borrow.Author.Needs.{needs}
-use lib.Seq.{length-take-le}
-use lib.ListN.{length-drop}
 use Rattle.print.specs.Lines.{textOf}
 use Rattle.print.proofs.Room.{rest-put, rest-room, wrote-within}
 use Rattle.print.proofs.put_line.Statement.{statement}

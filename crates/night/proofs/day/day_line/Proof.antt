@@ -51,7 +51,8 @@ same-length-3 c = search needs
 
 returns-2 : tie.Need-returns-2
 returns-2 c =
-    let r = c .before .before .before .before .before .before in
+    let u = c .before .before .before .before .before in
+    let r = u .before in
     let e = r .before .before .before .before .before in
     rw (c .says .ensures, e .e .given .1) (ap lineOf (r .call .ensures))
 

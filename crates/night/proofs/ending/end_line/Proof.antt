@@ -1,6 +1,6 @@
 -- `night::ending::end_line` meets its contract: no loop.
 use Rattle.night.proofs.EndLines.{left-waits, end-balance, end-money}
-use Rattle.tables.specs.Layout.{tables}
+use Rattle.tables.specs.Layout.{Tables, tables}
 use Rattle.tables.proofs.Balances.{accounts-bounded}
 use Rattle.rule.proofs.Ints.{plain}
 use native.Mathlib.Omega.{arith}
@@ -33,7 +33,10 @@ shared-slice-read-left-2 : tie.Need-shared-slice-read-left-2
 shared-slice-read-left-2 c = search needs
 
 sub-left : tie.Need-sub-left
-sub-left c = left-waits (c .before .before .before .before .before .before .before .pre .holds) (c .before .before .before .before .before .before .before .args .k) (omega arith) .some
+sub-left c =
+    let u = c .before .before .before .before .before in
+    let v = u .before .before in
+    left-waits (v .pre .holds) (v .args .k) (omega arith) .some
 
 add-t19 : tie.Need-add-t19
 add-t19 c = search needs
@@ -45,16 +48,29 @@ shared-slice-copy-out-t21 : tie.Need-shared-slice-copy-out-t21
 shared-slice-copy-out-t21 c = search needs
 
 cast-t22 : tie.Need-cast-t22
-cast-t22 c = omega (arith, left-waits (c .before .before .before .before .before .before .before .before .pre .holds) (c .before .before .before .before .before .before .before .before .args .k) (omega arith) .few)
+cast-t22 c =
+    let u = c .before .before .before .before .before in
+    let v = u .before .before .before in
+    omega (arith, left-waits (v .pre .holds) (v .args .k) (omega arith) .few)
 
 returns : tie.Need-returns
-returns c = let g = c .t21 .given in simp plain (end-balance (tables (c .before .before .before .before .before .before .before .before .args .accounts .now) (c .before .before .before .before .before .before .before .before .args .counters .now) (c .before .before .before .before .before .before .before .before .args .pays .now)) (c .before .before .before .before .before .before .before .before .pre .holds) (c .before .before .before .before .before .before .before .before .args .k) (omega arith))
+returns c =
+    let u = c .before .before .before .before .before in
+    let v = u .before .before .before in
+    let t : Tables = tables (v .args .accounts .now) (v .args .counters .now) (v .args .pays .now) in
+    let g = c .t21 .given in
+    simp plain (end-balance t (v .pre .holds) (v .args .k) (omega arith))
 
 total-requires : tie.Need-total-requires
 total-requires c κs = accounts-bounded (c .before .before .before .before .before .pre .holds .accounts)
 
 returns-2 : tie.Need-returns-2
-returns-2 c = let g = c .total .ok in simp plain (end-money (tables (c .before .before .before .before .before .before .args .accounts .now) (c .before .before .before .before .before .before .args .counters .now) (c .before .before .before .before .before .before .args .pays .now)) (c .before .before .before .before .before .before .pre .holds) (c .before .before .before .before .before .before .args .k) (c .total .result) (c .total .ensures) (omega arith))
+returns-2 c =
+    let u = c .before .before .before .before .before in
+    let v = u .before in
+    let t : Tables = tables (v .args .accounts .now) (v .args .counters .now) (v .args .pays .now) in
+    let g = c .total .ok in
+    simp plain (end-money t (v .pre .holds) (v .args .k) (c .total .result) (c .total .ensures) (omega arith))
 
 pub end-line-spec : {M : Type 1} → statement M
 end-line-spec =

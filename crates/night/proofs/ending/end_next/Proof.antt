@@ -17,10 +17,16 @@ add-t8 : tie.Need-add-t8
 add-t8 c = search needs
 
 returns : tie.Need-returns
-returns c = let h : c .before .before .before .before .args .k < countOf (c .before .before .before .before .args .counters .now) = omega arith in rw (lt-ltb _ _ h)
+returns c =
+    let s = c .before .before .before .before .args in
+    let h : s .k < countOf (s .counters .now) = omega arith in
+    rw (lt-ltb _ _ h)
 
 returns-2 : tie.Need-returns-2
-returns-2 c = let h : countOf (c .before .before .before .before .args .counters .now) ≤ c .before .before .before .before .args .k = omega arith in rw (le-ltb _ _ h)
+returns-2 c =
+    let s = c .before .before .before .before .args in
+    let h : countOf (s .counters .now) ≤ s .k = omega arith in
+    rw (le-ltb _ _ h)
 
 pub end-next-spec : {M : Type 1} → statement M
 end-next-spec = tie.close (tie.spec shared-slice-read-wide wide-requires add-t8 returns returns-2)

@@ -43,8 +43,12 @@ loop-again : tie.Need-loop-again Inv-loop μ-loop
 loop-again c =
     let s = c .before .before .before in
     let l = c .before .before .loop in
-    let g = c .b .given in
-    (simp length-set (l .inv .0), omega arith, block-turn (l .b) (s .args .accounts .now) (s .args .from) (l .i) _ (omega arith) (omega arith) (simp plain) (l .inv .2))
+    let g = c .b .given in (
+      simp length-set (l .inv .0),
+      omega arith,
+      block-turn (l .b) (s .args .accounts .now) (s .args .from) (l .i) _ (omega arith) (omega arith) (simp plain)
+          (l .inv .2),
+    )
 
 returns : tie.Need-returns Inv-loop μ-loop
 returns c = let e : c .before .loop .i ≡ c .before .before .args .m = omega arith in rw (sym e) (c .before .loop .inv .2)

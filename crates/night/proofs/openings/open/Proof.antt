@@ -1,6 +1,6 @@
 -- `night::openings::open` meets its contract: no loop.
 use Rattle.night.proofs.Opening.{open-accepted, open-refused, open-did}
-use Rattle.tables.specs.Layout.{tables}
+use Rattle.tables.specs.Layout.{Tables, tables}
 use lib.ListN.{length-take}
 use native.Mathlib.Omega.{arith}
 use borrow.Author.Needs.{needs}
@@ -17,7 +17,10 @@ array-share-prefix-balances : tie.Need-array-share-prefix-balances
 array-share-prefix-balances c = search needs
 
 slice-aggregate-open : tie.Need-slice-aggregate-open
-slice-aggregate-open c = simp length-take (omega (arith, c .before .before .before .before .before .before .block .ok))
+slice-aggregate-open c =
+    let u = c .before .before .before .before .before in
+    let v = u .before in
+    simp length-take (omega (arith, v .block .ok))
 
 array-share-prefix-lines : tie.Need-array-share-prefix-lines
 array-share-prefix-lines c = search needs
@@ -51,11 +54,18 @@ same-length-3 c = search needs
 
 returns : tie.Need-returns
 returns c =
-    let s = c .before .before .before .before .before .before .before .before .before .before .before .before .before .before .before .before .before .before .before .before .before .args in
-    let o = c .before .before .before .before .before .before .before .before .before .«open» in
-    open-did (s .n) (s .count) (tables (s .accounts .now) (s .counters .now) (s .pays .now)) (c .says .result) (o .result) _ _
-    (open-accepted _ _ (tables (c .before .before .before .before .before .before .before .before .before .before .before .before .before .before .before .before .before .before .before .before .before .args .accounts .now) (c .before .before .before .before .before .before .before .before .before .before .before .before .before .before .before .before .before .before .before .before .before .args .counters .now) (c .before .before .before .before .before .before .before .before .before .before .before .before .before .before .before .before .before .before .before .before .before .args .pays .now)) _ _ (c .before .before .r .given .0 .0) (c .before .known-told .given .0 .1) (c .before .before .r .given .1) (c .says .ensures))
-    (c .before .before .before .before .before .before .before .before .before .before .before .before .before .before .before .before .before .block .ensures) (c .before .before .before .before .before .before .before .before .before .before .before .before .before .before .before .block2 .ensures) (o .ensures)
+    let u = c .before .before .before .before .before in
+    let v = u .before .before .before .before in
+    let w = v .before .before .before .before .before in
+    let x = w .before in
+    let y = x .before .before in
+    let z = y .before .before .before .before in
+    let s = z .args in
+    let t : Tables = tables (s .accounts .now) (s .counters .now) (s .pays .now) in
+    let o = v .«open» in
+    open-did (s .n) (s .count) t (c .says .result) (o .result) _ _
+    (open-accepted _ _ t _ _ (c .before .before .r .given .0 .0) (c .before .known-told .given .0 .1) (c .before .before .r .given .1) (c .says .ensures))
+    (y .block .ensures) (x .block2 .ensures) (o .ensures)
 
 same-length-4 : tie.Need-same-length-4
 same-length-4 c = search needs
@@ -68,11 +78,18 @@ same-length-6 c = search needs
 
 returns-2 : tie.Need-returns-2
 returns-2 c =
-    let s = c .before .before .before .before .before .before .before .before .before .before .before .before .before .before .before .before .before .before .before .before .before .args in
-    let o = c .before .before .before .before .before .before .before .before .before .«open» in
-    open-did (s .n) (s .count) (tables (s .accounts .now) (s .counters .now) (s .pays .now)) (c .stop .result) (o .result) _ _
-    (open-refused _ _ (tables (c .before .before .before .before .before .before .before .before .before .before .before .before .before .before .before .before .before .before .before .before .before .args .accounts .now) (c .before .before .before .before .before .before .before .before .before .before .before .before .before .before .before .before .before .before .before .before .before .args .counters .now) (c .before .before .before .before .before .before .before .before .before .before .before .before .before .before .before .before .before .before .before .before .before .args .pays .now)) _ _ (c .before .before .r2 .given .0 .0) (c .before .before .r2 .given .1) (c .stop .ensures))
-    (c .before .before .before .before .before .before .before .before .before .before .before .before .before .before .before .before .before .block .ensures) (c .before .before .before .before .before .before .before .before .before .before .before .before .before .before .before .block2 .ensures) (o .ensures)
+    let u = c .before .before .before .before .before in
+    let v = u .before .before .before .before in
+    let w = v .before .before .before .before .before in
+    let x = w .before in
+    let y = x .before .before in
+    let z = y .before .before .before .before in
+    let s = z .args in
+    let t : Tables = tables (s .accounts .now) (s .counters .now) (s .pays .now) in
+    let o = v .«open» in
+    open-did (s .n) (s .count) t (c .stop .result) (o .result) _ _
+    (open-refused _ _ t _ _ (c .before .before .r2 .given .0 .0) (c .before .before .r2 .given .1) (c .stop .ensures))
+    (y .block .ensures) (x .block2 .ensures) (o .ensures)
 
 pub open-spec : {M : Type 1} → statement M
 open-spec =
