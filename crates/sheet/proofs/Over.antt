@@ -25,7 +25,8 @@ over-stays d l o = rw o (quiet-same d (over-quiet (d .stage) o))
 over-by : (b : ℕ) (f : Fed Night) → isOver (f .day .stage) ≡ true → byteOf stepOf b f .day ≡ f .day
 over-by b f o = go (eqb b 10)
   where
-    go : (p : Bool) → cond {A = Fed Night} p (record { day = stepOf (f .day) (lineOf (f .held)); held = none }) (record { day = f .day; held = pushed b (f .held) }) .day ≡ f .day
+    go : (p : Bool)
+        → cond {A = Fed Night} p (record { day = stepOf (f .day) (lineOf (f .held)); held = none }) (record { day = f .day; held = pushed b (f .held) }) .day ≡ f .day
     go true = over-stays (f .day) (lineOf (f .held)) o
     go false = refl
 
@@ -41,5 +42,6 @@ over-last (b ∷ u) d l o = over-stays d l o
 pub over-closed : (s : List ℕ) (f : Fed Night) → isOver (f .day .stage) ≡ true → closed (finish stepOf (feedOf stepOf s f)) ≡ f .day .sheet
 over-closed s f o =
     let g : Fed Night = feedOf stepOf s f in
-    let e : finish stepOf g ≡ f .day = over-last (g .held .bytes) (g .day) (lineOf (g .held)) (ap (λ (d : Night). isOver (d .stage)) (over-fed s f o) ∙ o) ∙ over-fed s f o in
+    let e : finish stepOf g ≡ f .day =
+    over-last (g .held .bytes) (g .day) (lineOf (g .held)) (ap (λ (d : Night). isOver (d .stage)) (over-fed s f o) ∙ o) ∙ over-fed s f o in
     ap closed e ∙ ap (λ (b : Bool). cond b (f .day) (stopped 0 (f .day)) .sheet) o

@@ -37,7 +37,8 @@ line-read l {e} {vs} t = record { small = subst smallEntry (sym (t .means)) (go 
     go long = tt
 
 -- what the line did suits the stage behind it
-pub did-kept : (n : ℕ) (g : Stage) (t : Tables) (e : Entry) (r : Does) (u : Tables) → n ≤ mostLines → ((i : ℕ) → getD (t .counters) i 0 ≤ lastNumber) → Stands g t
+pub did-kept : (n : ℕ) (g : Stage) (t : Tables) (e : Entry) (r : Does) (u : Tables) → n ≤ mostLines → ((i : ℕ) → getD (t .counters) i 0 ≤ lastNumber)
+    → Stands g t
     → did r (u .accounts) (u .counters) (u .pays) ≡ doesOf n g t e → Kept (did r (u .accounts) (u .counters) (u .pays))
 did-kept n g t e r u few w s q = rw q (does-kept n (omega arith) g t e w s)
 

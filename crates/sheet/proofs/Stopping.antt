@@ -40,7 +40,8 @@ module _ {D : Type 0} {turn : D → D} {goes : D → Bool} where
   pub stops-here : {d e : D} → goes d ≡ false → Stops turn goes d e → e ≡ d
   stops-here {d} h s = stops-one s (record { run = runs-none d; halts = h })
 
-  turned-same : {A : Type 0} (φ : D → A) → ((d : D) → goes d ≡ true → φ (turn d) ≡ φ d) → (d : D) (n : ℕ) → ((k : ℕ) → k < n → goes (turned turn k d) ≡ true) → φ (turned turn n d) ≡ φ d
+  turned-same : {A : Type 0} (φ : D → A) → ((d : D) → goes d ≡ true → φ (turn d) ≡ φ d) → (d : D) (n : ℕ) → ((k : ℕ) → k < n → goes (turned turn k d) ≡ true)
+      → φ (turned turn n d) ≡ φ d
   unfolding turned
   turned-same φ same d zero on = refl
   turned-same φ same d (suc n) on = same (turned turn n d) (on n (omega arith)) ∙ turned-same φ same d n (λ k l. on k (omega arith))

@@ -21,7 +21,8 @@ sets-behind out at v l =
     rw (sets-eq v out at l) (drop-at (take at out ++ v) (drop (at + length v) out) (at + length v) (simp length-append (omega arith)))
 
 -- a line that was written stands behind what was used
-pub put-behind : (s : Says) (out : List ℕ) (used : ℕ) → used + leastRoom ≤ length out → Ranges s → (r : ℕ) (out₁ : List ℕ) → r ≡ used + length (textOf s) → out₁ ≡ sets out used (textOf s)
+pub put-behind : (s : Says) (out : List ℕ) (used : ℕ) → used + leastRoom ≤ length out → Ranges s → (r : ℕ) (out₁ : List ℕ) → r ≡ used + length (textOf s)
+    → out₁ ≡ sets out used (textOf s)
     → (take r out₁ ≡ take used out ++ textOf s) × (r ≤ length out) × Grown used r out out₁
 put-behind s out used room g r out₁ e q =
     let w = wrote-within s g out used room in
@@ -36,10 +37,9 @@ pub grown-more : {u v w : ℕ} {out out₁ out₂ : List ℕ} → Grown u v out 
 grown-more {u} {v} {w} {out} {out₁} a b =
     let e : v + (w - v) ≡ w = omega (arith, b .on) in
     record {
-      on =
-          omega (arith, a .on, b .on);
-      rest = b .rest
-          ∙ subst (λ (k : ℕ). drop k out₁ ≡ drop k out) e (sym (drop-drop (w - v) v out₁) ∙ ap (drop (w - v)) (a .rest) ∙ drop-drop (w - v) v out);
+      on = omega (arith, a .on, b .on);
+      rest = b .rest ∙ subst (λ (k : ℕ). drop k out₁ ≡ drop k out) e
+          (sym (drop-drop (w - v) v out₁) ∙ ap (drop (w - v)) (a .rest) ∙ drop-drop (w - v) v out);
     }
 
 -- a line that is said is in its ranges

@@ -12,7 +12,8 @@ use Rattle.sheet.proofs.close.Tie as tie
 
 abbrev Inv-loop : tie.InvT-loop
 Inv-loop buf counts₀ accounts₀ counters₀ pays₀ out₀ t₀ counts accounts counters pays out t =
-    Going closeTurn (closesOn (length out₀)) (deskOf [] t₀ (tables accounts₀ counters₀ pays₀) out₀ buf) (t₀ .used) out₀ [] buf counts out (tables accounts counters pays) t
+    Going closeTurn (closesOn (length out₀)) (deskOf [] t₀ (tables accounts₀ counters₀ pays₀) out₀ buf) (t₀ .used) out₀ [] buf counts out
+    (tables accounts counters pays) t
     × (length accounts ≡ length accounts₀) × (length counters ≡ length counters₀) × (length pays ≡ length pays₀)
 
 abbrev μ-loop : tie.MeasureT-loop
@@ -26,16 +27,29 @@ closes-on-requires : tie.Need-closes-on-requires Inv-loop μ-loop
 closes-on-requires c κs = let g = c .loop .inv .0 in omega (arith, g .fit .room, g .long)
 
 close-on-requires : tie.Need-close-on-requires Inv-loop μ-loop
-close-on-requires c κs = let g = c .before .before .before .before .before .before .before .loop .inv .0 in (fit-at _ (sym (g .long)) (g .fit), g .slots, g .line, sym (c .before .before .before .before .before .before .closes-on .ensures) ∙ c .before .before .before .before .before .if1 .taken)
+close-on-requires c κs =
+    let u = c .before .before .before .before .before in
+    let v = u .before in
+    let w = v .before in
+    let g = w .loop .inv .0 in (fit-at _ (sym (g .long)) (g .fit), g .slots, g .line, sym (v .closes-on .ensures) ∙ u .if1 .taken)
 
 loop-less : tie.Need-loop-less Inv-loop μ-loop
-loop-less c = c .before .before .before .before .before .before .before .before .before .close-on .ensures .1 .1
+loop-less c =
+    let u = c .before .before .before .before .before in
+    let v = u .before .before .before .before in
+    v .close-on .ensures .1 .1
 
 loop-again : tie.Need-loop-again Inv-loop μ-loop
 loop-again c =
-    let g = c .before .before .before .before .before .before .before .before .before .before .before .before .before .before .before .before .before .loop .inv in
-    let r = c .before .before .before .before .before .before .before .before .before .close-on in
-    let e = closes-at (g .0) (sym (c .before .before .before .before .before .before .before .before .before .before .before .before .before .before .before .before .closes-on .ensures) ∙ c .before .before .before .before .before .before .before .before .before .before .before .before .before .before .before .if1 .taken) in (
+    let u = c .before .before .before .before .before in
+    let v = u .before .before .before .before in
+    let w = v .before .before .before .before .before in
+    let x = w .before in
+    let y = x .before in
+    let z = y .before in
+    let g = z .loop .inv in
+    let r = v .close-on in
+    let e = closes-at (g .0) (sym (y .closes-on .ensures) ∙ x .if1 .taken) in (
       going-next (g .0) e (r .ensures .0) (r .ensures .1 .0) (r .ensures .1 .2) refl (omega (arith, r .kept)) (omega (arith, r .kept)),
       omega (arith, r .kept, g .1),
       omega (arith, r .kept, g .2),
@@ -43,7 +57,10 @@ loop-again c =
     )
 
 same-length : tie.Need-same-length Inv-loop μ-loop
-same-length c = c .before .before .loop .inv .0 .slots ∙ sym (c .before .before .before .before .before .before .before .before .pre .1)
+same-length c =
+    let u = c .before .before .before .before .before in
+    let v = u .before .before .before in
+    c .before .before .loop .inv .0 .slots ∙ sym (v .pre .1)
 
 same-length-2 : tie.Need-same-length-2 Inv-loop μ-loop
 same-length-2 c = c .before .before .loop .inv .1

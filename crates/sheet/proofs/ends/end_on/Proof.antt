@@ -19,7 +19,8 @@ ending-at-requires c κs = search needs
 end-line-requires : tie.Need-end-line-requires
 end-line-requires c κs =
     let s = c .before .before .before .before in
-    telling (s .args .s) (tables (s .args .accounts .now) (s .args .counters .now) (s .args .pays .now)) (c .ending-at .result) (c .ending-at .ensures) (s .pre .0)
+    telling (s .args .s) (tables (s .args .accounts .now) (s .args .counters .now) (s .args .pays .now)) (c .ending-at .result) (c .ending-at .ensures)
+    (s .pre .0)
 
 put-line-requires : tie.Need-put-line-requires
 put-line-requires c κs =
@@ -49,7 +50,8 @@ returns c =
     let t : Tables = tables (s .args .accounts .now) (s .args .counters .now) (s .args .pays .now) in
     let h = telling (s .args .s) t (k .result) (k .ensures) (s .pre .0) in
     let ok : Ranges (l .result) = rw (l .ensures) (end-ranges t (h .holds) (k .result)) in
-    let w = put-behind (l .result) (s .args .out .now) (s .args .s .used) (s .pre .2) ok (p .put-line .result) _ (p .put-line .ensures .0) (p .put-line .ensures .1) in
+    let w =
+    put-behind (l .result) (s .args .out .now) (s .args .s .used) (s .pre .2) ok (p .put-line .result) _ (p .put-line .ensures .0) (p .put-line .ensures .1) in
     let r : State = record { lines = s .args .s .lines; stage = c .before .end-next .result; used = p .put-line .result; cut = s .args .s .cut } in
     let g = c .before .end-next .ensures in
     let fit : Fit r t (length (s .args .out .now)) =
