@@ -13,7 +13,7 @@ use Rattle.rule.specs.Payment.{payerOf}
 use Rattle.rule.specs.House.{waits, position}
 use Rattle.rule.specs.Table.{staying}
 use Rattle.tables.specs.Sizes.{members, places}
-use Rattle.tables.specs.Layout.{Tables, tables, settledAt, membersIn, wordsIn, houseIn, waitingOf, settledOf, lineOf}
+use Rattle.tables.specs.Layout.{Tables, tables, settledAt, membersIn, wordsIn, houseIn, waitingOf, settledOf, leewayOf}
 use Rattle.tables.specs.State.{every}
 use Rattle.tables.specs.Holds.{Holds}
 
@@ -40,7 +40,7 @@ bookedIn T z =
 
 -- whether each of the n members is covered at these positions: position + line >= 0
 abbrev pub coveredAt : List ℤ → List ℤ → ℕ → Bool
-coveredAt positions a i = leZ (pos 0) (getD positions i (pos 0) +ℤ lineOf a i)
+coveredAt positions a i = leZ (pos 0) (getD positions i (pos 0) +ℤ leewayOf a i)
 
 abbrev pub coveredAll : ℕ → List ℤ → List ℤ → Bool
 coveredAll n positions a = every (coveredAt positions a) n

@@ -11,7 +11,7 @@ use Rattle.rule.specs.House.{money}
 use Rattle.rule.specs.Day.{deposits}
 use Rattle.rule.proofs.Day.{carried}
 use Rattle.tables.specs.Sizes.{members}
-use Rattle.tables.specs.Layout.{Tables, membersIn, balanceOf, lineOf, moneyOf}
+use Rattle.tables.specs.Layout.{Tables, membersIn, lineOf, moneyOf, coverOf}
 use Rattle.tables.specs.Holds.{Holds}
 use Rattle.tables.proofs.Houses.{holds-sound, line-is}
 use Rattle.opening.specs.Open.{entry}
@@ -25,7 +25,7 @@ module _ {T : Tables} (h : Holds T) (qs : List Request) (g : Inside qs T) where
   chain-money = chain-carries h qs g .money
 
   -- each member is at or above minus its line,
-  pub chain-covered : (i : ℕ) → i < membersIn T → pos 0 ≤ℤ (balanceOf (afterAll qs T .accounts) i +ℤ lineOf (afterAll qs T .accounts) i)
+  pub chain-covered : (i : ℕ) → i < membersIn T → pos 0 ≤ℤ coverOf (afterAll qs T .accounts) i
   chain-covered i q = let k = chain-carries h qs g in k .stands .accounts .holders i (omega (arith, k .members)) .cover
 
   -- and the lines stay

@@ -20,7 +20,7 @@ use Rattle.rule.specs.Day.{atOnce}
 use Rattle.rule.proofs.Demands.{largest-exists, largest-one}
 use Rattle.rule.proofs.Day.{at-once-sound}
 use Rattle.sets.specs.Sets.{sizeOf, lowestOf}
-use Rattle.tables.specs.Layout.{Tables, membersIn, houseIn, lineOf, moneyOf}
+use Rattle.tables.specs.Layout.{Tables, membersIn, houseIn, lineOf, moneyOf, coverOf}
 use Rattle.tables.specs.State.{isState}
 use Rattle.tables.specs.Holds.{Holds}
 use Rattle.answers.specs.Codes.{test}
@@ -67,7 +67,7 @@ use Rattle.nights.proofs.Demands.{file-money, last-ended, sheets-end-alike, she
 use Rattle.demands.specs.Refusals.{codeIn, judgedOn}
 use Rattle.demands.specs.Settles.{Settles}
 use Rattle.demands.specs.Alike.{Alike}
-use Rattle.demands.specs.Terms.{sumWith, coverOf, ResolvedTo}
+use Rattle.demands.specs.Terms.{sumWith, ResolvedTo}
 use Rattle.demands.proofs.Codes.{replied-code}
 use Rattle.demands.proofs.Settling.{booked-settles, resolve-answers, resolve-settles, bytes-answer, bytes-settle, toldIn}
 

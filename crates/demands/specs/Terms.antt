@@ -5,16 +5,11 @@ use lib.IntN.{ℤ, pos, _+ℤ_}
 use Rattle.rule.specs.Kernel.{Counts, sum}
 use Rattle.rule.specs.House.{House, LargestSet, Same, booked, money}
 use Rattle.rule.specs.Day.{Call, deposits}
-use Rattle.tables.specs.Layout.{balanceOf, lineOf}
 use Rattle.opening.specs.Open.{entry}
 
 -- the sum of the n opening balances b, plus the deposits among the calls cs
 abbrev pub sumWith : ℕ → List ℤ → List Call → ℤ
 sumWith n b cs = money n (entry b) +ℤ pos (sum n (deposits cs))
-
--- balance plus line of member i, in the account table a
-abbrev pub coverOf : List ℤ → ℕ → ℤ
-coverOf a i = balanceOf a i +ℤ lineOf a i
 
 -- the house H of n members has a largest set, and X is H with that set booked
 abbrev pub ResolvedTo : ℕ → House → House → Type 0

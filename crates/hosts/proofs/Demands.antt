@@ -11,7 +11,7 @@ use Rattle.rule.specs.Kernel.{Counts, sum}
 use Rattle.rule.specs.House.{House, LargestSet, Same, booked, money}
 use Rattle.rule.specs.Day.{Call as Noted, deposits as depositsOf, payments, credited, lined, atOnce}
 use Rattle.rule.proofs.Sums.{sum-cong}
-use Rattle.tables.specs.Layout.{Tables, membersIn, houseIn, balanceOf, lineOf, moneyOf}
+use Rattle.tables.specs.Layout.{Tables, membersIn, houseIn, moneyOf, coverOf}
 use Rattle.tables.specs.Holds.{Holds}
 use Rattle.answers.specs.Codes.{first}
 use Rattle.answers.specs.Outcome.{Outcome, outcome, decided, judgement, called}
@@ -85,9 +85,9 @@ module _ {n : ℕ} {u v s t : List ℕ} (c : Call (opens n u v) 0 s t) where
         ∙ ap (λ m. money n (entry (signedIn u)) +ℤ pos m) (sum-cong n (depositsOf (made (requests d) (tablesIn t))) (depositsOf (notes d)) (λ i q. k .deposits i))
 
     -- and each member is at or above minus its line
-    pub day-covered : (i : ℕ) → i < n → pos 0 ≤ℤ (balanceOf (accountsIn e) i +ℤ lineOf (accountsIn e) i)
+    pub day-covered : (i : ℕ) → i < n → pos 0 ≤ℤ coverOf (accountsIn e) i
     day-covered i q =
-        subst (λ (T : Tables). pos 0 ≤ℤ (balanceOf (T .accounts) i +ℤ lineOf (T .accounts) i)) (sym (chained opened-stands d .is))
+        subst (λ (T : Tables). pos 0 ≤ℤ coverOf (T .accounts) i) (sym (chained opened-stands d .is))
         (chain-covered (begun-stands begun) (requests d) (chained opened-stands d .inside) i (omega (arith, begun-members begun)))
 
 -- ---- after an accepted call

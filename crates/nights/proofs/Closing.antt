@@ -12,6 +12,7 @@ use Rattle.rule.specs.Lists.{listing}
 use Rattle.rule.specs.House.{House, waits, Same, money}
 use Rattle.rule.proofs.Ints.{plus-zero}
 use Rattle.rule.proofs.Money.{money-same}
+use Rattle.tables.specs.Sizes.{members}
 use Rattle.tables.specs.Layout.{Tables, membersIn, houseIn, balanceOf, moneyOf}
 use Rattle.tables.specs.Holds.{Holds}
 use Rattle.print.specs.declared.Says.{Says}
@@ -28,7 +29,7 @@ listing-same zero f g e = refl
 listing-same (suc n) f g e = rw (e 0 (omega arith), listing-same n (λ i. f (suc i)) (λ i. g (suc i)) (λ i l. e (suc i) (omega arith)))
 
 module _ {W X : Tables} (h : Holds W) (k : Holds X) (e : Equal W X) where
-  balance-same : (i : ℕ) → i < 64 → balanceOf (X .accounts) i ≡ balanceOf (W .accounts) i
+  balance-same : (i : ℕ) → i < members → balanceOf (X .accounts) i ≡ balanceOf (W .accounts) i
   balance-same i l = go (ltb i (membersIn W)) refl
     where
       go : (b : Bool) → ltb i (membersIn W) ≡ b → balanceOf (X .accounts) i ≡ balanceOf (W .accounts) i
@@ -48,7 +49,7 @@ module _ {W X : Tables} (h : Holds W) (k : Holds X) (e : Equal W X) where
   closing-same =
       ap (λ n. textsOf (listing n (balanceSays X) ++ (S.Money (moneyOf (X .accounts)) ∷ []))) (e .members)
       ∙ ap (λ l. textsOf (l ++ (S.Money (moneyOf (X .accounts)) ∷ []))) (listing-same (membersIn W) (balanceSays X) (balanceSays W) says-same)
-      ∙ ap (λ z. textsOf (listing (membersIn W) (balanceSays W) ++ (S.Money z ∷ []))) (money-same 64 (balanceOf (W .accounts)) (balanceOf (X .accounts)) balance-same)
+      ∙ ap (λ z. textsOf (listing (membersIn W) (balanceSays W) ++ (S.Money z ∷ []))) (money-same members (balanceOf (W .accounts)) (balanceOf (X .accounts)) balance-same)
 
 texts-join : (ss : List Says) (s : Says) → textsOf (ss ++ (s ∷ [])) ≡ textsOf ss ++ textOf s
 texts-join [] s = append-nil (textOf s)
@@ -69,9 +70,9 @@ money-past n (suc k) b e =
 -- the closing lines say the house that the tables hold
 pub closing-house : {W : Tables} → Holds W → closingOf W ≡ closingIn (membersIn W) (houseIn W)
 closing-house {W} h =
-    let q : membersIn W + (64 - membersIn W) ≡ 64 = omega (arith, h .counters .few) in
-    let m : money 64 (balanceOf (W .accounts)) ≡ money (membersIn W) (balanceOf (W .accounts)) =
-    ap (λ j. money j (balanceOf (W .accounts))) (sym q) ∙ money-past (membersIn W) (64 - membersIn W) (balanceOf (W .accounts)) (λ i l k. h .accounts .no-balance i l (omega (arith, q))) in
+    let q : membersIn W + (members - membersIn W) ≡ members = omega (arith, h .counters .few) in
+    let m : money members (balanceOf (W .accounts)) ≡ money (membersIn W) (balanceOf (W .accounts)) =
+    ap (λ j. money j (balanceOf (W .accounts))) (sym q) ∙ money-past (membersIn W) (members - membersIn W) (balanceOf (W .accounts)) (λ i l k. h .accounts .no-balance i l (omega (arith, q))) in
     ap (λ z. textsOf (listing (membersIn W) (balanceSays W) ++ (S.Money z ∷ []))) m
 
 -- houses that are the same at the members have the same closing lines

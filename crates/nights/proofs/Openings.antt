@@ -10,8 +10,8 @@ use lib.Dec.{eqb, leb, ltb}
 use lib.IntN.{ℤ, pos}
 use lib.ListN.{length, take, drop, set, length-set, length-drop, length-replicate}
 use lib.Seq.{take-suc-set, take-set-le, drop-set-lt, drop-set-add}
-use Rattle.tables.specs.Sizes.{members}
-use Rattle.tables.specs.Layout.{Tables}
+use Rattle.tables.specs.Sizes.{members, places, table}
+use Rattle.tables.specs.Layout.{Tables, linesAt}
 use Rattle.tables.proofs.Tests.{and-both}
 use Rattle.answers.specs.Outcome.{Outcome, outcome, held}
 use Rattle.answers.specs.declared.Refusal.the-variants as R
@@ -42,7 +42,7 @@ use Rattle.nights.proofs.Runs.{run-join}
 record Gives (count k : ℕ) (t : Tables) (b l : List ℤ) : Type 0 where
   pub giving : Giving count k t
   pub balances : take k (t .accounts) ≡ b
-  pub lines : take k (drop 64 (t .accounts)) ≡ l
+  pub lines : take k (drop linesAt (t .accounts)) ≡ l
 
 record None (t : Tables) (b l : List ℤ) : Type 0 where
   pub sized : Sized t
@@ -65,13 +65,13 @@ module _ {count k : ℕ} {t : Tables} {b l : List ℤ} (g : Gives count k t b l)
   given-balances : take (k + 1) (given t k x y .accounts) ≡ b ++ (x ∷ [])
   given-balances =
       let r : k < length (t .accounts) = omega (arith, g .giving .few, g .giving .next, g .giving .sized .long) in
-      rw (take-set-le (k + 1) (set (t .accounts) k x) (64 + k) (pos y) (omega arith), add-one, take-suc-set (t .accounts) k x r, g .balances)
+      rw (take-set-le (k + 1) (set (t .accounts) k x) (linesAt + k) (pos y) (omega arith), add-one, take-suc-set (t .accounts) k x r, g .balances)
 
-  given-lines : take (k + 1) (drop 64 (given t k x y .accounts)) ≡ l ++ (pos y ∷ [])
+  given-lines : take (k + 1) (drop linesAt (given t k x y .accounts)) ≡ l ++ (pos y ∷ [])
   given-lines =
-      let r : k < length (drop 64 (t .accounts)) = omega (arith, length-drop 64 (t .accounts), g .giving .few, g .giving .next, g .giving .sized .long) in
-      let q : k < 64 = omega (arith, g .giving .few, g .giving .next) in
-      rw (drop-set-add 64 (set (t .accounts) k x) k (pos y), drop-set-lt 64 (t .accounts) k x q, add-one, take-suc-set (drop 64 (t .accounts)) k (pos y) r, g .lines)
+      let r : k < length (drop linesAt (t .accounts)) = omega (arith, length-drop linesAt (t .accounts), g .giving .few, g .giving .next, g .giving .sized .long) in
+      let q : k < members = omega (arith, g .giving .few, g .giving .next) in
+      rw (drop-set-add linesAt (set (t .accounts) k x) k (pos y), drop-set-lt linesAt (t .accounts) k x q, add-one, take-suc-set (drop linesAt (t .accounts)) k (pos y) r, g .lines)
 
   gives-next : k + 1 < count → Gives count (k + 1) (given t k x y) (b ++ (x ∷ [])) (l ++ (pos y ∷ []))
   gives-next h = record {
@@ -173,7 +173,7 @@ module _ (n count k : ℕ) (t : Tables) {b l : List ℤ} (g : Gives count k t b 
       eb = ap (λ i. take i (v .accounts)) (sym c) ∙ given-balances g x y
 
       el : linesGiven count v ≡ l ++ (pos y ∷ [])
-      el = ap (λ i. take i (drop 64 (v .accounts))) (sym c) ∙ given-lines g x y
+      el = ap (λ i. take i (drop linesAt (v .accounts))) (sym c) ∙ given-lines g x y
 
       go : (o : Opened) → u .answer ≡ o → told (openStage o) ≡ G.Day → Begun count (b ++ (x ∷ [])) (l ++ (pos y ∷ [])) (u .after)
       go (opening.Done s) e q = record {
@@ -245,9 +245,9 @@ credits-join (y ∷ ls) x = ap (λ (r : List ℤ). creditOf (entryIn y) ++ r) (c
 morning-gave : Gave G.House (morning .tables) [] []
 morning-gave = record {
   sized = record {
-    long = rw (length-replicate 512 (pos 0)) (omega arith);
-    broad = rw (length-replicate {A = ℕ} 512 0) (omega arith);
-    deep = rw (length-replicate {A = ℕ} 2048 0) (omega arith);
+    long = rw (length-replicate table (pos 0)) (omega arith);
+    broad = rw (length-replicate {A = ℕ} table 0) (omega arith);
+    deep = rw (length-replicate {A = ℕ} places 0) (omega arith);
   };
   balances = refl;
   lines = refl;

@@ -12,6 +12,8 @@ use lib.ListN.{length, take, drop}
 use Rattle.io.specs.Counts.{clamped}
 use Rattle.cut.specs.Lines.{mostBytes}
 use Rattle.print.specs.Room.{hasRoom}
+use Rattle.dayfile.specs.Entries.{mostCounts}
+use Rattle.tables.specs.Sizes.{places, table}
 use Rattle.tables.specs.Layout.{Tables}
 use Rattle.night.specs.declared.Stage.{Stage}
 use Rattle.sheet.specs.declared.State.{State}
@@ -34,10 +36,10 @@ outBytes = 4096
 pub record Memory (chunk buf counts : List ℕ) (t : Tables) (out : List ℕ) : Type 0 where
   pub bytes : length chunk ≡ outBytes
   pub line : length buf ≡ mostBytes
-  pub slots : length counts ≡ 64
-  pub accounts : length (t .accounts) ≡ 512
-  pub counters : length (t .counters) ≡ 512
-  pub pays : length (t .pays) ≡ 2048
+  pub slots : length counts ≡ mostCounts
+  pub accounts : length (t .accounts) ≡ table
+  pub counters : length (t .counters) ≡ table
+  pub pays : length (t .pays) ≡ places
   pub long : length out ≡ outBytes
 
 -- the bytes that were read and are not eaten

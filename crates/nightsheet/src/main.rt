@@ -1,5 +1,6 @@
 // Reads a day file on standard input and writes its sheet on standard output. What is said stands there before more input is awaited.
 use sheet::State;
+use tables::House;
 ghost use mathlib.Core.Path.{_≡_};
 ghost use mathlib.Core.Bool.{cond, _&&_};
 ghost use Prim.Native.Nat.{_≤_};
@@ -43,10 +44,10 @@ fn main() {
     }
     let mut chunk = [0u8; OUT];
     let mut buf = [0u8; cut::MOST_BYTES];
-    let mut counts = [0u64; 64];
-    let mut accounts = [0i64; 512];
-    let mut counters = [0u32; 512];
-    let mut pays = [0u64; 2048];
+    let mut counts = [0u64; dayfile::MOST_COUNTS];
+    let mut accounts = [0i64; House::TABLE];
+    let mut counters = [0u32; House::TABLE];
+    let mut pays = [0u64; House::PLACES];
     let mut out = [0u8; OUT];
     whole(
         &mut chunk,

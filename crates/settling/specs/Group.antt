@@ -3,11 +3,11 @@ use mathlib.Core.Bool.{Bool, not, _&&_}
 use mathlib.Core.List.{List, [], _∷_}
 use Prim.Native.Nat.{ℕ}
 use lib.Dec.{eqb, leb}
-use lib.IntN.{pos, _+ℤ_}
+use lib.IntN.{pos}
 use lib.Signed.{leZ}
 use lib.ListN.{length}
 use Rattle.rule.specs.Kernel.{Counts, sum}
-use Rattle.rule.specs.House.{House, waits, sent, position}
+use Rattle.rule.specs.House.{House, waits, sent, cover, booked}
 use Rattle.tables.specs.Layout.{membersIn, houseIn, countOf, waitsOf}
 use Rattle.tables.specs.State.{every}
 use Rattle.booking.specs.Booking.{listed, bookedIn}
@@ -30,7 +30,7 @@ countsFit c k = eqb (length k) (countOf c) && every (λ i. leb (listed k i) (wai
 
 -- each member is covered if z is booked
 abbrev pub coverAt : ℕ → House → Counts → ℕ → Bool
-coverAt n H z i = leZ (pos 0) (position n H z i +ℤ pos (H .line i))
+coverAt n H z i = leZ (pos 0) (cover (booked n H z) i)
 
 abbrev pub isCovered : ℕ → House → Counts → Bool
 isCovered n H z = every (coverAt n H z) n

@@ -3,13 +3,13 @@ use mathlib.Core.Bool.{Bool, not}
 use mathlib.Core.List.{[], _∷_}
 use Prim.Native.Nat.{ℕ, _+_, _-_}
 use lib.Dec.{eqb}
-use lib.IntN.{pos, _+ℤ_}
+use lib.IntN.{pos}
 use lib.Signed.{leZ}
 use lib.ListN.{getD}
 use Rattle.rule.specs.Kernel.{Counts}
 use Rattle.rule.specs.Payment.{amountOf}
 use Rattle.rule.specs.House.{waits}
-use Rattle.tables.specs.Layout.{Tables, houseIn, settledOf, balanceOf, lineOf}
+use Rattle.tables.specs.Layout.{Tables, houseIn, settledOf, coverOf}
 use Rattle.booking.specs.Booking.{headAlone, bookedIn}
 use Rattle.answers.specs.Codes.{test, isMember}
 use Rattle.answers.specs.Outcome.{Act, outcome}
@@ -23,7 +23,7 @@ headAmount T m = amountOf (getD (houseIn T .queue (m - 1)) 0 0)
 
 -- balance + line >= amount
 abbrev pub headCovered : Tables → ℕ → Bool
-headCovered T m = leZ (pos (headAmount T m)) (balanceOf (T .accounts) (m - 1) +ℤ lineOf (T .accounts) (m - 1))
+headCovered T m = leZ (pos (headAmount T m)) (coverOf (T .accounts) (m - 1))
 
 -- the head of member m alone is booked
 abbrev pub onlyHead : ℕ → Counts

@@ -1,7 +1,7 @@
 -- What stands where in the three lent lists: a (accounts), c (counters) and p (places). See docs/TABLES.md. Members are counted from 0.
 use mathlib.Core.List.{List}
 use Prim.Native.Nat.{ℕ, _+_, _*_, _-_}
-use lib.IntN.{ℤ, pos}
+use lib.IntN.{ℤ, pos, _+ℤ_}
 use lib.ListN.{getD, take}
 use Rattle.rule.specs.Ints.{up}
 use Rattle.rule.specs.House.{House, money}
@@ -73,6 +73,14 @@ balanceOf a i = getD a i (pos 0)
 
 abbrev pub lineOf : List ℤ → ℕ → ℤ
 lineOf a i = getD a (linesAt + i) (pos 0)
+
+-- how far below zero the balance of member i may go: its line
+abbrev pub leewayOf : List ℤ → ℕ → ℤ
+leewayOf a i = lineOf a i
+
+-- what member i can pay: balance and leeway
+abbrev pub coverOf : List ℤ → ℕ → ℤ
+coverOf a i = balanceOf a i +ℤ leewayOf a i
 
 -- the waiting payments
 abbrev pub wordsOf : List ℕ → List ℕ → List ℕ
