@@ -1,3 +1,5 @@
+pub mod Eating
+pub mod Chunks
 pub mod Fields
 pub mod Numbers
 pub mod Entries

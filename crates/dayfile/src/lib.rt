@@ -16,6 +16,8 @@ ghost use Rattle.dayfile.specs.Fields.{upTo, fieldsFrom, same};
 ghost use Rattle.dayfile.specs.Entries.{mostCounts, edition as first, numbersOf, valuesOf, countFrom, kindOf, ofKind, ofNumbers, asMember, memberOf, entryOf};
 ghost use Rattle.dayfile.specs.Reading.{Tells, leftOf};
 
+pub mod lines;
+
 // The most lines of a day file.
 pub const MOST_LINES: u64 = 1_000_000;
 

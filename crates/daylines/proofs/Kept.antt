@@ -32,8 +32,8 @@ use Rattle.settling.proofs.Settles.{group-books, release-books}
 use Rattle.resolving.specs.Resolve.{largestIn, stillWaits}
 use Rattle.resolving.proofs.Resolves.{largest-books}
 use Rattle.dayfile.specs.Entries.{DayLine, pay, deposit, release, group, resolve}
-use Rattle.print.specs.declared.Says.{Says}
-use Rattle.print.specs.Room.{Ranges}
+use Rattle.sheet.specs.declared.Says.{Says}
+use Rattle.sheet.specs.Room.{Ranges}
 use Rattle.daylines.specs.Calls.{refusal, lineOf, paySays, payDoes, depositSays, depositDoes, releaseSays, releaseDoes, groupSays, groupDoes, resolveDoes}
 use Rattle.daylines.specs.Calls.{callDoes}
 use Rattle.daylines.proofs.Amounts.{queued-small, counts-few, sum-small, Heads, release-heads, verdict-small, size-small, lowest-small}

@@ -29,8 +29,8 @@ use Rattle.settling.specs.Release.{releaseAct}
 use Rattle.settling.specs.Group.{groupAct}
 use Rattle.resolving.specs.Resolve.{largestIn, stillWaits}
 use Rattle.dayfile.specs.Entries.{DayLine, pay, deposit, release, group, resolve}
-use Rattle.print.specs.declared.Says.{Says}
-use Rattle.print.specs.declared.Says.the-variants as S
+use Rattle.sheet.specs.declared.Says.{Says}
+use Rattle.sheet.specs.declared.Says.the-variants as S
 
 -- line n is refused
 abbrev pub refusal : ℕ → Refusal → Says

@@ -7,7 +7,7 @@ use answers::Resolution;
 use answers::Resolved;
 use answers::Submitted;
 use dayfile::DayLine;
-use print::Says;
+use sheet::Says;
 use tables::House;
 use tables::steps::wide;
 ghost use mathlib.Core.Path.{_≡_};

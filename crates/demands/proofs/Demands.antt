@@ -46,16 +46,16 @@ use Rattle.days.proofs.Sums.{day-money, chain-covered, chain-lines}
 use Rattle.days.proofs.Openings.{begun-day, day-ends-as-at-once, days-end-equal, days-end-queues}
 use Rattle.hosts.specs.Hosts.{Call, Chain, notes, Day, openingIn}
 use Rattle.hosts.proofs.Demands.{refused-changes-nothing, accepted-stands, day-sum, day-covered, ends-as-at-once, days-end, days-queues}
-use Rattle.cut.specs.Lines.{Line}
-use Rattle.cut.specs.Chunks.{runOf}
+use Rattle.dayfile.specs.Lines.{Line}
+use Rattle.dayfile.specs.Chunks.{runOf}
 use Rattle.dayfile.specs.Entries as E
 use Rattle.dayfile.specs.Entries.{Entry}
-use Rattle.print.specs.declared.Says.the-variants.{Resolve, Money}
-use Rattle.print.specs.Lines.{textOf}
+use Rattle.sheet.specs.declared.Says.the-variants.{Resolve, Money}
+use Rattle.sheet.specs.Lines.{textOf}
 use Rattle.night.specs.declared.Stage.the-variants.{Day as ItIsDay}
 use Rattle.daylines.specs.Calls.{refusal}
 use Rattle.night.specs.Lines.{says, dayDoes}
-use Rattle.sheet.specs.Sheet.{textsOf, stepOf, sheetOf}
+use Rattle.session.specs.Sheet.{textsOf, stepOf, sheetOf}
 use Rattle.nights.specs.Files.{nightAfter, OpenAlike, Whole, LastResolves, EndsIn, balancesIn, creditsIn, membersOf, madeAfter, tablesAfter, closingOf, closingIn}
 use Rattle.nights.specs.Printed.{judgedLine, saysIn, readOff, Reads}
 use Rattle.nights.specs.Forms.{Opening}

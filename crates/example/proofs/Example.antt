@@ -19,10 +19,10 @@ use Rattle.sets.specs.Sets.{sizeOf, lowestOf}
 use Rattle.numbers.specs.Numbers.{digitsFrom, lastDigits, widthUpTo}
 use Rattle.dayfile.specs.Fields.{fieldsOf, same}
 use Rattle.dayfile.specs.Entries.{numbersOf}
-use Rattle.print.specs.Lines.{tabbed}
-use Rattle.cut.specs.Lines.{linesFrom}
-use Rattle.cut.specs.Chunks.{runOf}
-use Rattle.sheet.specs.Sheet.{sheetOf}
+use Rattle.sheet.specs.Lines.{tabbed}
+use Rattle.dayfile.specs.Lines.{linesFrom}
+use Rattle.dayfile.specs.Chunks.{runOf}
+use Rattle.session.specs.Sheet.{sheetOf}
 
 -- the input
 abbrev pub exampleFile : List ℕ

@@ -11,7 +11,7 @@ use Rattle.tables.specs.Sizes.{places}
 use Rattle.tables.specs.Layout.{countOf, lastOf, settledOf, balanceOf, moneyOf, wordsOf, Tables, membersIn}
 use Rattle.tables.specs.Holds.{Holds}
 use Rattle.tables.proofs.Houses.{few-wait}
-use Rattle.print.specs.declared.Says.the-variants as S
+use Rattle.sheet.specs.declared.Says.the-variants as S
 use Rattle.night.specs.Lines.{endAt}
 
 -- a member's waiting payments are those accepted and not settled

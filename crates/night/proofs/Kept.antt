@@ -23,8 +23,8 @@ use Rattle.opening.specs.Open.{openAct}
 use Rattle.opening.proofs.Judging.{Opens, open-fine}
 use Rattle.opening.proofs.Opens.{opens-hold, opens-money}
 use Rattle.dayfile.specs.Entries.{house, member, Entry, opening, day, end, bad}
-use Rattle.print.specs.Room.{Ranges}
-use Rattle.print.specs.declared.Says.the-variants as S
+use Rattle.sheet.specs.Room.{Ranges}
+use Rattle.sheet.specs.declared.Says.the-variants as S
 use Rattle.daylines.proofs.Kept.{code-small, balance-small, money-small, call-kept}
 use Rattle.night.specs.declared.Stage.{Stage}
 use Rattle.night.specs.declared.Stage.the-variants as G

@@ -30,7 +30,7 @@ use Rattle.dayfile.specs.declared.OpeningLine.{OpeningLine}
 use Rattle.dayfile.specs.declared.OpeningLine.the-variants as O
 use Rattle.dayfile.specs.declared.Entry.{Entry}
 use Rattle.dayfile.specs.declared.Entry.the-variants as E
-use Rattle.print.specs.declared.Says.the-variants as S
+use Rattle.sheet.specs.declared.Says.the-variants as S
 use Rattle.night.specs.declared.Stage.the-variants as G
 use Rattle.night.specs.declared.Said.the-variants.{One}
 use Rattle.night.specs.declared.Does.{Does}

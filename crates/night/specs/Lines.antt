@@ -18,8 +18,8 @@ use Rattle.answers.specs.declared.Opened.{Opened}
 use Rattle.answers.specs.declared.Opened.the-variants as opens
 use Rattle.dayfile.specs.Entries.{house, member, Entry, opening, day, end, bad}
 use Rattle.daylines.specs.Calls.{refusal, callDoes}
-use Rattle.print.specs.declared.Says.{Says}
-use Rattle.print.specs.declared.Says.the-variants as S
+use Rattle.sheet.specs.declared.Says.{Says}
+use Rattle.sheet.specs.declared.Says.the-variants as S
 use Rattle.night.specs.declared.Stage.{Stage}
 use Rattle.night.specs.declared.Stage.the-variants as G
 use Rattle.night.specs.declared.Said.{Said}

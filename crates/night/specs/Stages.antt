@@ -3,7 +3,7 @@
 use mathlib.Core.Bool.{Bool, true, false}
 use mathlib.Core.List.{List, []}
 use lib.ListN.{drop}
-use Rattle.print.specs.declared.Says.{Says}
+use Rattle.sheet.specs.declared.Says.{Says}
 use Rattle.tables.specs.Layout.{Tables}
 use Rattle.night.specs.declared.Stage.{Stage}
 use Rattle.night.specs.declared.Stage.the-variants as G

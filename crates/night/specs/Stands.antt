@@ -9,8 +9,8 @@ use Rattle.dayfile.specs.Entries.{smallOpening}
 use Rattle.dayfile.specs.Reading.{openingMeant}
 use Rattle.dayfile.specs.declared.Entry.{Entry}
 use Rattle.dayfile.specs.declared.Entry.the-variants as E
-use Rattle.print.specs.declared.Says.{Says}
-use Rattle.print.specs.Room.{Ranges}
+use Rattle.sheet.specs.declared.Says.{Says}
+use Rattle.sheet.specs.Room.{Ranges}
 use Rattle.night.specs.declared.Stage.{Stage}
 use Rattle.night.specs.declared.Stage.the-variants as G
 

@@ -1,6 +1,6 @@
 // The lines at the end: a balance for each member, then the money.
 use crate::Stage;
-use print::Says;
+use sheet::Says;
 use tables::House;
 use tables::steps::wide;
 ghost use mathlib.Core.Path.{_≡_};

@@ -7,7 +7,7 @@ mod stages;
 use dayfile::Entry;
 pub use ending::end_line;
 pub use ending::end_next;
-use print::Says;
+use sheet::Says;
 pub use stages::ending_at;
 pub use stages::is_ending;
 pub use stages::is_over;

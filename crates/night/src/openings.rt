@@ -7,7 +7,7 @@ use answers::Opened;
 use answers::Refusal;
 use dayfile::Entry;
 use dayfile::OpeningLine;
-use print::Says;
+use sheet::Says;
 use tables::House;
 use tables::steps::signed;
 ghost use mathlib.Core.Path.{_≡_};

@@ -15,11 +15,11 @@ use Rattle.rule.proofs.Money.{money-same}
 use Rattle.tables.specs.Sizes.{members}
 use Rattle.tables.specs.Layout.{Tables, membersIn, houseIn, balanceOf, moneyOf}
 use Rattle.tables.specs.Holds.{Holds}
-use Rattle.print.specs.declared.Says.{Says}
-use Rattle.print.specs.declared.Says.the-variants as S
-use Rattle.print.specs.Lines.{textOf}
+use Rattle.sheet.specs.declared.Says.{Says}
+use Rattle.sheet.specs.declared.Says.the-variants as S
+use Rattle.sheet.specs.Lines.{textOf}
 use Rattle.night.specs.Lines.{balanceSays}
-use Rattle.sheet.specs.Sheet.{textsOf}
+use Rattle.session.specs.Sheet.{textsOf}
 use Rattle.days.specs.Days.{Equal}
 use Rattle.nights.specs.Files.{closingOf, closingIn}
 

@@ -22,13 +22,13 @@ use Rattle.answers.specs.declared.Resolved.the-variants.{Done}
 use Rattle.answers.proofs.Outcomes.{held-fine, called-held}
 use Rattle.opening.specs.Open.{entry}
 use Rattle.resolving.specs.Resolve.{told, largestIn, resolveAct}
-use Rattle.print.specs.declared.Says.the-variants as S
-use Rattle.print.specs.Lines.{textOf}
+use Rattle.sheet.specs.declared.Says.the-variants as S
+use Rattle.sheet.specs.Lines.{textOf}
 use Rattle.night.specs.Lines.{balanceSays}
-use Rattle.cut.specs.Lines.{Line, linesOf}
-use Rattle.cut.specs.Chunks.{runOf}
+use Rattle.dayfile.specs.Lines.{Line, linesOf}
+use Rattle.dayfile.specs.Chunks.{runOf}
 use Rattle.dayfile.specs.Entries.{mostLines}
-use Rattle.sheet.specs.Sheet.{Night, textsOf, entryIn, stepOf, morning, closed, sheetOf}
+use Rattle.session.specs.Sheet.{Night, textsOf, entryIn, stepOf, morning, closed, sheetOf}
 use Rattle.days.specs.Days.{Request, after, accepted, afterAll, made, Inside, Ended, openingOf, Begun, Equal}
 use Rattle.days.proofs.Joins.{deposits-join, payments-join}
 use Rattle.days.proofs.Chains.{chain-carries, after-join, made-join, inside-first}

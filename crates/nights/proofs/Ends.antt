@@ -17,16 +17,16 @@ use Rattle.answers.specs.declared.Opened.{Opened}
 use Rattle.answers.specs.declared.Opened.the-variants as opening
 use Rattle.opening.specs.Open.{openAct}
 use Rattle.dayfile.specs.Entries as E
-use Rattle.cut.specs.Lines.{Line, linesOf}
-use Rattle.cut.specs.Chunks.{runOf}
-use Rattle.print.specs.Lines.{textOf}
+use Rattle.dayfile.specs.Lines.{Line, linesOf}
+use Rattle.dayfile.specs.Chunks.{runOf}
+use Rattle.sheet.specs.Lines.{textOf}
 use Rattle.night.specs.declared.Stage.{Stage}
 use Rattle.night.specs.declared.Stage.the-variants as G
 use Rattle.daylines.specs.Calls.{refusal}
 use Rattle.night.specs.Lines.{Did, quiet, stops, houseDoes, given, balancesGiven, linesGiven, opensTo, openDoes, givenDoes, memberDoes, doesOf}
 use Rattle.dayfile.specs.Entries.{mostLines, Entry}
 use Rattle.night.specs.Stages.{told, isOver}
-use Rattle.sheet.specs.Sheet.{Night, finished, entryIn, after, stopped, stepOf, morning, closed}
+use Rattle.session.specs.Sheet.{Night, finished, entryIn, after, stopped, stepOf, morning, closed}
 use Rattle.nights.specs.Files.{isEnd, nightAfter, Opens, requestsAfter, EndsIn, Comes, whole, refused}
 use Rattle.nights.proofs.Runs.{Gone, run-join, over-run}
 use Rattle.nights.proofs.Demands.{day-gone}

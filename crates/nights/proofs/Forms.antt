@@ -18,13 +18,13 @@ use Rattle.answers.specs.Outcome.{held}
 use Rattle.opening.specs.Open.{openAct}
 use Rattle.dayfile.specs.Entries as E
 use Rattle.dayfile.specs.Entries.{mostLines, Entry}
-use Rattle.cut.specs.Lines.{Line}
-use Rattle.cut.specs.Chunks.{runOf}
+use Rattle.dayfile.specs.Lines.{Line}
+use Rattle.dayfile.specs.Chunks.{runOf}
 use Rattle.night.specs.declared.Stage.{Stage}
 use Rattle.night.specs.declared.Stage.the-variants as G
 use Rattle.night.specs.Lines.{Did, quiet, stops, houseDoes, given, balancesGiven, linesGiven, openStage, openDoes, givenDoes, memberDoes, dayDoes, doesOf}
 use Rattle.night.specs.Stages.{isOver, told}
-use Rattle.sheet.specs.Sheet.{Night, after, stopped, entryIn, stepOf, morning}
+use Rattle.session.specs.Sheet.{Night, after, stopped, entryIn, stepOf, morning}
 use Rattle.nights.specs.Files.{nightAfter, Opens}
 use Rattle.nights.specs.Forms.{entriesIn, memberLines, Opening}
 use Rattle.nights.proofs.Runs.{run-join}

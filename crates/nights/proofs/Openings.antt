@@ -23,15 +23,15 @@ use Rattle.answers.proofs.Outcomes.{done-fine}
 use Rattle.opening.specs.Open.{openAct}
 use Rattle.opening.proofs.Judging.{Opens as OpenFine, open-fine}
 use Rattle.dayfile.specs.Entries as E
-use Rattle.cut.specs.Lines.{Line}
-use Rattle.cut.specs.Chunks.{runOf}
+use Rattle.dayfile.specs.Lines.{Line}
+use Rattle.dayfile.specs.Chunks.{runOf}
 use Rattle.night.specs.declared.Stage.{Stage}
 use Rattle.night.specs.declared.Stage.the-variants as G
 use Rattle.night.specs.Lines.{Did, quiet, stops, houseDoes, given, openStage, balancesGiven, linesGiven, openDoes, givenDoes, memberDoes, dayDoes, doesOf}
 use Rattle.night.specs.Stands.{Sized, Giving}
 use Rattle.dayfile.specs.Entries.{mostLines, Entry}
 use Rattle.night.specs.Stages.{told, isOver}
-use Rattle.sheet.specs.Sheet.{Night, entryIn, after, stopped, stepOf, morning}
+use Rattle.session.specs.Sheet.{Night, entryIn, after, stopped, stepOf, morning}
 use Rattle.days.specs.Days.{Begun}
 use Rattle.nights.specs.Files.{balanceOf, creditOf, balancesIn, creditsIn, membersOf, nightAfter, Opens, openedBy}
 use Rattle.nights.proofs.Runs.{run-join}

@@ -25,17 +25,17 @@ use Rattle.booking.specs.Booking.{listed}
 use Rattle.resolving.specs.Resolve.{resolveAct, largestIn}
 use Rattle.dayfile.specs.Entries as E
 use Rattle.dayfile.specs.Entries.{mostLines, DayLine, Entry}
-use Rattle.print.specs.declared.Says.{Says}
-use Rattle.print.specs.declared.Says.the-variants as S
-use Rattle.print.specs.Lines.{textOf}
-use Rattle.cut.specs.Lines.{Line, linesOf}
-use Rattle.cut.specs.Chunks.{runOf}
+use Rattle.sheet.specs.declared.Says.{Says}
+use Rattle.sheet.specs.declared.Says.the-variants as S
+use Rattle.sheet.specs.Lines.{textOf}
+use Rattle.dayfile.specs.Lines.{Line, linesOf}
+use Rattle.dayfile.specs.Chunks.{runOf}
 use Rattle.night.specs.declared.Stage.{Stage}
 use Rattle.night.specs.declared.Stage.the-variants as G
 use Rattle.daylines.specs.Calls.{refusal, lineOf, paySays, depositSays, releaseSays, groupSays, callDoes}
 use Rattle.night.specs.Lines.{says, dayDoes}
 use Rattle.night.specs.Stages.{restSays}
-use Rattle.sheet.specs.Sheet.{Night, textsOf, entryIn, stepOf, morning, closed, sheetOf}
+use Rattle.session.specs.Sheet.{Night, textsOf, entryIn, stepOf, morning, closed, sheetOf}
 use Rattle.days.specs.Days.{accepted, made}
 use Rattle.days.proofs.Joins.{deposits-join, payments-join}
 use Rattle.days.proofs.Chains.{chain-carries, made-join}

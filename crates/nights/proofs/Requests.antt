@@ -4,8 +4,8 @@ use Prim.Native.Nat.{ℕ}
 use Rattle.tables.specs.Layout.{Tables}
 use Rattle.dayfile.specs.Entries as E
 use Rattle.dayfile.specs.Entries.{DayLine, Entry}
-use Rattle.cut.specs.Lines.{Line}
-use Rattle.sheet.specs.Sheet.{entryIn}
+use Rattle.dayfile.specs.Lines.{Line}
+use Rattle.session.specs.Sheet.{entryIn}
 use Rattle.days.specs.Days.{afterAll, Inside}
 use Rattle.days.proofs.Chains.{inside-join}
 use Rattle.nights.specs.Files.{requestOf, requestsOf, requestsIn}

@@ -10,15 +10,15 @@ use lib.ListN.{length}
 use Rattle.rule.specs.Lists.{Each}
 use Rattle.tables.specs.Layout.{membersIn}
 use Rattle.tables.specs.Holds.{Holds}
-use Rattle.cut.specs.Lines.{Line}
-use Rattle.cut.specs.Chunks.{runOf}
+use Rattle.dayfile.specs.Lines.{Line}
+use Rattle.dayfile.specs.Chunks.{runOf}
 use Rattle.night.specs.declared.Stage.the-variants as G
 use Rattle.night.specs.Lines.{Did, quiet, dayDoes, doesOf, endSays}
 use Rattle.dayfile.specs.Entries.{mostLines}
 use Rattle.night.specs.Stages.{told, isOver}
-use Rattle.sheet.specs.Sheet.{Night, textsOf, finished, entryIn, after, stopped, stepOf, closed}
-use Rattle.sheet.proofs.Futures.{quiet-same}
-use Rattle.sheet.proofs.Over.{over-quiet}
+use Rattle.session.specs.Sheet.{Night, textsOf, finished, entryIn, after, stopped, stepOf, closed}
+use Rattle.session.proofs.Futures.{quiet-same}
+use Rattle.session.proofs.Over.{over-quiet}
 use Rattle.days.specs.Days.{Request, afterAll}
 use Rattle.days.proofs.Chains.{chain-carries, after-join}
 use Rattle.nights.specs.Files.{requestsOf, requestsIn, isEnd}

@@ -10,13 +10,13 @@ use Rattle.rule.specs.Lists.{Each}
 use Rattle.tables.specs.Layout.{Tables}
 use Rattle.dayfile.specs.Entries as E
 use Rattle.dayfile.specs.Entries.{mostLines, Entry}
-use Rattle.cut.specs.Lines.{Line}
-use Rattle.cut.specs.Chunks.{runOf}
+use Rattle.dayfile.specs.Lines.{Line}
+use Rattle.dayfile.specs.Chunks.{runOf}
 use Rattle.night.specs.declared.Stage.{Stage}
 use Rattle.night.specs.declared.Stage.the-variants as G
 use Rattle.night.specs.Lines.{dayDoes, doesOf}
 use Rattle.night.specs.Stages.{isOver, told}
-use Rattle.sheet.specs.Sheet.{Night, after, stopped, entryIn, stepOf, morning}
+use Rattle.session.specs.Sheet.{Night, after, stopped, entryIn, stepOf, morning}
 use Rattle.nights.specs.Files.{isEnd, nightAfter, Opens, Whole}
 use Rattle.nights.proofs.Runs.{run-join}
 

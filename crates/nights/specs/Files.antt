@@ -7,19 +7,19 @@ use lib.IntN.{ℤ, pos}
 use lib.ListN.{length, replicate}
 use Rattle.rule.specs.Lists.{listing, Each}
 use Rattle.rule.specs.House.{House, waits, money}
-use Rattle.print.specs.declared.Says.the-variants as S
+use Rattle.sheet.specs.declared.Says.the-variants as S
 use Rattle.rule.specs.Day.{Call}
 use Rattle.tables.specs.Layout.{Tables}
 use Rattle.dayfile.specs.Entries as E
 use Rattle.answers.specs.declared.Refusal.{Refusal}
-use Rattle.print.specs.Lines.{textOf}
-use Rattle.cut.specs.Lines.{Line, linesOf}
-use Rattle.cut.specs.Chunks.{runOf}
+use Rattle.sheet.specs.Lines.{textOf}
+use Rattle.dayfile.specs.Lines.{Line, linesOf}
+use Rattle.dayfile.specs.Chunks.{runOf}
 use Rattle.night.specs.declared.Stage.the-variants as G
 use Rattle.daylines.specs.Calls.{refusal}
 use Rattle.night.specs.Lines.{endSays}
 use Rattle.dayfile.specs.Entries.{mostLines, DayLine, Entry}
-use Rattle.sheet.specs.Sheet.{Night, textsOf, entryIn, stepOf, morning, sheetOf}
+use Rattle.session.specs.Sheet.{Night, textsOf, entryIn, stepOf, morning, sheetOf}
 use Rattle.days.specs.Days.{Request, deposits, submits, releases, groups, resolves, afterAll, made}
 
 -- ---- the requests of a day

@@ -6,8 +6,8 @@ use lib.IntN.{ℤ}
 use lib.ListN.{length}
 use Rattle.dayfile.specs.Entries as E
 use Rattle.dayfile.specs.Entries.{Entry}
-use Rattle.cut.specs.Lines.{Line}
-use Rattle.sheet.specs.Sheet.{entryIn}
+use Rattle.dayfile.specs.Lines.{Line}
+use Rattle.session.specs.Sheet.{entryIn}
 
 -- what some lines say
 abbrev pub entriesIn : List Line → List Entry

@@ -21,12 +21,12 @@ use Rattle.settling.specs.Group.{groupAct}
 use Rattle.resolving.specs.Resolve.{largestIn}
 use Rattle.dayfile.specs.Entries as E
 use Rattle.dayfile.specs.Entries.{DayLine, Entry}
-use Rattle.print.specs.declared.Says.{Says}
-use Rattle.print.specs.declared.Says.the-variants as S
-use Rattle.cut.specs.Lines.{Line}
+use Rattle.sheet.specs.declared.Says.{Says}
+use Rattle.sheet.specs.declared.Says.the-variants as S
+use Rattle.dayfile.specs.Lines.{Line}
 use Rattle.daylines.specs.Calls.{refusal, resolveSays}
 use Rattle.night.specs.Lines.{dayDoes}
-use Rattle.sheet.specs.Sheet.{Night, entryIn, stepOf}
+use Rattle.session.specs.Sheet.{Night, entryIn, stepOf}
 
 -- ---- one line
 

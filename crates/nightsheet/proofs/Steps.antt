@@ -12,18 +12,18 @@ use lib.IntN.{ℤ, pos, negsuc}
 use lib.ListN.{length, take, drop}
 use lib.Seq.{length-take-le}
 use Rattle.io.specs.Counts.{clamped}
-use Rattle.print.specs.Room.{leastRoom, hasRoom}
+use Rattle.sheet.specs.Room.{leastRoom, hasRoom}
 use Rattle.tables.specs.Layout.{Tables}
 use Rattle.tables.proofs.Tests.{and-both}
-use Rattle.sheet.specs.declared.State.{State}
-use Rattle.sheet.specs.declared.Turn.{Turn}
+use Rattle.session.specs.declared.State.{State}
+use Rattle.session.specs.declared.Turn.{Turn}
 use Rattle.night.specs.Stages.{isOver}
-use Rattle.sheet.specs.Sheet.{morning}
-use Rattle.sheet.specs.Stops.{Stops}
-use Rattle.sheet.specs.Turns.{Desk, turnOf, goesOn, closeTurn, closesOn}
-use Rattle.sheet.specs.Feeding.{deskOf, dawn, Fit}
-use Rattle.sheet.specs.Session.{Session, begun, hands, feeds, writes, closes}
-use Rattle.sheet.proofs.Theorem.{session-sheet, feed-whole}
+use Rattle.session.specs.Sheet.{morning}
+use Rattle.session.specs.Stops.{Stops}
+use Rattle.session.specs.Turns.{Desk, turnOf, goesOn, closeTurn, closesOn}
+use Rattle.session.specs.Feeding.{deskOf, dawn, Fit}
+use Rattle.session.specs.Session.{Session, begun, hands, feeds, writes, closes}
+use Rattle.session.proofs.Theorem.{session-sheet, feed-whole}
 use Rattle.nightsheet.specs.declared.Next.{Next}
 use Rattle.nightsheet.specs.declared.Next.the-variants as N
 use Rattle.nightsheet.specs.declared.Run.{Run}

@@ -10,18 +10,18 @@ use lib.IntN.{ℤ, pos}
 use lib.Signed.{ltZ}
 use lib.ListN.{length, take, drop}
 use Rattle.io.specs.Counts.{clamped}
-use Rattle.cut.specs.Lines.{mostBytes}
-use Rattle.print.specs.Room.{hasRoom}
+use Rattle.dayfile.specs.Lines.{mostBytes}
+use Rattle.sheet.specs.Room.{hasRoom}
 use Rattle.dayfile.specs.Entries.{mostCounts}
 use Rattle.tables.specs.Sizes.{places, table}
 use Rattle.tables.specs.Layout.{Tables}
 use Rattle.night.specs.declared.Stage.{Stage}
-use Rattle.sheet.specs.declared.State.{State}
+use Rattle.session.specs.declared.State.{State}
 use Rattle.night.specs.Stages.{isOver}
-use Rattle.sheet.specs.Sheet.{sheetOf}
-use Rattle.sheet.specs.Turns.{Desk}
-use Rattle.sheet.specs.Feeding.{deskOf, Fit}
-use Rattle.sheet.specs.Session.{Session}
+use Rattle.session.specs.Sheet.{sheetOf}
+use Rattle.session.specs.Turns.{Desk}
+use Rattle.session.specs.Feeding.{deskOf, Fit}
+use Rattle.session.specs.Session.{Session}
 use Rattle.nightsheet.specs.declared.Next.{Next}
 use Rattle.nightsheet.specs.declared.Next.the-variants as N
 use Rattle.nightsheet.specs.declared.Run.{Run}

@@ -1,5 +1,5 @@
 // Reads a day file on standard input and writes its sheet on standard output. What is said stands there before more input is awaited.
-use sheet::State;
+use session::State;
 use tables::House;
 ghost use mathlib.Core.Path.{_≡_};
 ghost use mathlib.Core.Bool.{cond, _&&_};
@@ -9,7 +9,7 @@ ghost use lib.IntN.{pos};
 ghost use lib.Signed.{ltZ};
 ghost use lib.ListN.{length, take};
 ghost use Rattle.tables.specs.Layout.{tables};
-ghost use Rattle.sheet.specs.Sheet.{morning};
+ghost use Rattle.session.specs.Sheet.{morning};
 ghost use Rattle.nightsheet.specs.declared.Next.the-variants.{Close, Failed};
 ghost use Rattle.nightsheet.specs.Steps.{outBytes, Memory, Ready, isOn, takenAs, Took, fedNext, closedNext, Wrote, deskIn, Ate, Closed, Stood};
 
@@ -43,7 +43,7 @@ fn main() {
         return;
     }
     let mut chunk = [0u8; OUT];
-    let mut buf = [0u8; cut::MOST_BYTES];
+    let mut buf = [0u8; dayfile::lines::MOST_BYTES];
     let mut counts = [0u64; dayfile::MOST_COUNTS];
     let mut accounts = [0i64; House::TABLE];
     let mut counters = [0u32; House::TABLE];
@@ -73,7 +73,7 @@ fn whole(
     requires { ⌜ Memory (now chunk) (now buf) (now counts) (tables (now accounts) (now counters) (now pays)) (now out) × (tables (now accounts) (now counters) (now pays) ≡ morning .tables) ⌝ }
     ensures { λ r. ⌜ Stood (r .next) r (now (chunk .exit)) (now (buf .exit)) (tables (now (accounts .exit)) (now (counters .exit)) (now (pays .exit))) (now (out .exit)) ⌝ }
 {
-    let s = sheet::start();
+    let s = session::start();
     let mut r = Run {
         next: Next::Read,
         at: 0,
@@ -194,7 +194,7 @@ fn eat_on(
 {
     let got = r.got;
     let s = r.state;
-    let t = sheet::feed(
+    let t = session::feed(
         &chunk[..got],
         r.at,
         buf,
@@ -222,10 +222,10 @@ fn fed_next(s: State) -> Next
     ensures { λ x. ⌜ x ≡ fedNext s ⌝ }
 {
     let stage = s.stage;
-    if sheet::is_over(stage) {
+    if session::is_over(stage) {
         return Next::Done;
     }
-    if print::has_room(s.used, OUT) {
+    if sheet::has_room(s.used, OUT) {
         return Next::Read;
     }
     Next::Eat
@@ -246,7 +246,7 @@ fn close_on(
     ensures { λ x. ⌜ Closed (deskIn r (now (chunk .entry)) (now (buf .entry)) (tables (now (accounts .entry)) (now (counters .entry)) (now (pays .entry))) (now (out .entry))) x (now (chunk .entry)) (now (buf .entry)) (tables (now (accounts .exit)) (now (counters .exit)) (now (pays .exit))) (now (out .exit)) ⌝ }
 {
     let s = r.state;
-    let v = sheet::close(buf, counts, accounts, counters, pays, out, s);
+    let v = session::close(buf, counts, accounts, counters, pays, out, s);
     let next = closed_next(v);
     let e = Run {
         next,
@@ -262,7 +262,7 @@ fn closed_next(s: State) -> Next
     ensures { λ x. ⌜ x ≡ closedNext s ⌝ }
 {
     let stage = s.stage;
-    if sheet::is_over(stage) {
+    if session::is_over(stage) {
         return Next::Done;
     }
     Next::Close
@@ -275,7 +275,7 @@ fn write_out(out: &[u8], r: Run) -> Run
 {
     let s = r.state;
     let used = s.used;
-    let w = sheet::flushed(s);
+    let w = session::flushed(s);
     if hand_out(&out[..used], out, s) {
         let next = r.next;
         return Run {

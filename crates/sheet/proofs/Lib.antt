@@ -1,10 +1,6 @@
-pub mod Stopping
-pub mod Futures
-pub mod Writing
-pub mod Steps
-pub mod Endings
-pub mod Desks
-pub mod Over
-pub mod Behind
-pub mod Unique
-pub mod Theorem
+pub mod Texts
+pub mod Start
+pub mod Fields
+pub mod Ranges
+pub mod Room
+pub mod Examples

@@ -1,5 +1,2 @@
-pub mod Sheet
-pub mod Stops
-pub mod Turns
-pub mod Feeding
-pub mod Session
+pub mod Lines
+pub mod Room

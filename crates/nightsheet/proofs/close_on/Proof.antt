@@ -1,6 +1,6 @@
 -- `nightsheet::close_on` meets its contract: what `close` leaves is what the session comes to, once it is written out.
 use Rattle.nightsheet.proofs.Steps.{fed-closed}
-use Rattle.sheet.proofs.Desks.{fit-at}
+use Rattle.session.proofs.Desks.{fit-at}
 use native.Mathlib.Omega.{arith}
 use mathlib.Core.Path.{sym}
 use borrow.Author.Needs.{needs}

@@ -1,6 +1,6 @@
 -- `nightsheet::eat_on` meets its contract: what `feed` leaves is what the session comes to, once it is written out.
 use Rattle.nightsheet.proofs.Steps.{fed-ate}
-use Rattle.sheet.proofs.Desks.{fit-at}
+use Rattle.session.proofs.Desks.{fit-at}
 use lib.ListN.{length-take}
 use native.Mathlib.Omega.{arith}
 use mathlib.Core.Path.{sym}

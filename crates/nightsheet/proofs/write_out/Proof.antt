@@ -1,5 +1,5 @@
 -- `nightsheet::write_out` meets its contract: no loop.
-use Rattle.sheet.specs.declared.State.{State}
+use Rattle.session.specs.declared.State.{State}
 use Rattle.nightsheet.specs.declared.Next.{Next}
 use Rattle.nightsheet.specs.declared.Next.the-variants.{Failed}
 use Rattle.nightsheet.specs.declared.Run.{Run}

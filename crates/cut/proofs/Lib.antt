@@ -1,2 +1,0 @@
-pub mod Eating
-pub mod Chunks

@@ -1,0 +1,10 @@
+pub mod Stopping
+pub mod Futures
+pub mod Writing
+pub mod Steps
+pub mod Endings
+pub mod Desks
+pub mod Over
+pub mod Behind
+pub mod Unique
+pub mod Theorem

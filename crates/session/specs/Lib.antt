@@ -1,0 +1,5 @@
+pub mod Sheet
+pub mod Stops
+pub mod Turns
+pub mod Feeding
+pub mod Session

@@ -1,0 +1,92 @@
+-- One turn after the other: what is to come of a chunk, the night as it stands, and what is held of the next line; what a turn makes of
+-- it, and where it stops. A turn says the next line of the end, or reads the next line.
+use mathlib.Core.Bool.{Bool, cond, not, _&&_, _||_}
+use mathlib.Core.List.{List, [], _∷_, _++_}
+use Prim.Native.Nat.{ℕ, _+_}
+use lib.Dec.{ltb}
+use lib.ListN.{length, take, drop}
+use Rattle.dayfile.specs.Chunks.{Held, none, lineOf, Eaten, eatOf, Fed, feedOf, finish}
+use Rattle.sheet.specs.Room.{hasRoom}
+use Rattle.night.specs.declared.Stage.{Stage}
+use Rattle.night.specs.Stages.{isEnding, isOver, restSays, nextStage}
+use Rattle.session.specs.Sheet.{Night, textsOf, finished, stopped, answered, stepOf, closed}
+
+-- between two turns: bytes to come, the night of which the end may have lines to say, and what is held of the next line
+pub record Desk : Type 0 where
+  pub rest : List ℕ
+  pub night : Night
+  pub held : Held
+
+-- ---- one turn
+
+-- the next line of the end is said
+abbrev pub endSaid : Night → Night
+endSaid d =
+    record {
+      lines = d .lines;
+      stage = nextStage (d .stage) (d .tables);
+      tables = d .tables;
+      sheet = d .sheet ++ textsOf (take 1 (restSays (d .stage) (d .tables)));
+    }
+
+-- a turn that says it
+abbrev pub endTurn : Desk → Desk
+endTurn d = record { rest = d .rest; night = endSaid (d .night); held = d .held }
+
+-- bytes are eaten: a line that they end is answered, and one that they do not end is held
+abbrev pub eatenTo : Desk → Eaten → Desk
+eatenTo d e =
+    record {
+      rest = drop (e .used) (d .rest);
+      night = cond (e .done) (answered (d .night) (lineOf (e .held))) (d .night);
+      held = cond (e .done) none (e .held);
+    }
+
+-- the next line of the bytes to come, or all of them
+abbrev pub eatTurn : Desk → Desk
+eatTurn d = eatenTo d (eatOf (d .rest) (d .held))
+
+-- a turn while there is input
+abbrev pub turnOf : Desk → Desk
+turnOf d = cond (isEnding (d .night .stage)) (endTurn d) (eatTurn d)
+
+-- the last line of the input, if no byte 10 ended it; without one, a night that is not over is refused as line 0
+abbrev pub lastOf : List ℕ → Desk → Night
+lastOf [] d = stopped 0 (d .night)
+lastOf (b ∷ u) d = answered (d .night) (lineOf (d .held))
+
+-- a turn that does so
+abbrev pub lastTurn : Desk → Desk
+lastTurn d = record { rest = d .rest; night = lastOf (d .held .bytes) d; held = none }
+
+-- a turn at the end of the input
+abbrev pub closeTurn : Desk → Desk
+closeTurn d = cond (isEnding (d .night .stage)) (endTurn d) (lastTurn d)
+
+-- ---- where it stops
+
+-- lines of the end are to be said, or the night is not over and there are bytes
+abbrev pub isOn : Stage → Bool → Bool
+isOn g more = isEnding g || (not (isOver g) && more)
+
+-- with n bytes of output, while there is input,
+abbrev pub goesOn : ℕ → Desk → Bool
+goesOn n d = hasRoom n (length (d .night .sheet)) && isOn (d .night .stage) (ltb 0 (length (d .rest)))
+
+-- and at its end
+abbrev pub closesOn : ℕ → Desk → Bool
+closesOn n d = hasRoom n (length (d .night .sheet)) && not (isOver (d .night .stage))
+
+-- ---- what comes of it
+
+-- what the end has still to say counts as said
+abbrev pub fedOf : Desk → Fed Night
+fedOf d = record { day = finished (d .night); held = d .held }
+
+-- the night once all bytes to come are fed
+abbrev pub comesTo : Desk → Fed Night
+comesTo d = feedOf stepOf (d .rest) (fedOf d)
+
+-- the sheet if the input ends here
+abbrev pub closesTo : Desk → List ℕ
+closesTo d = closed (finish stepOf (fedOf d))
