@@ -1,11 +1,11 @@
--- `nightsheet::read_on` meets its contract: no loop.
-use Rattle.nightsheet.specs.Steps.{takenAs}
+-- `nightloop::read_on` meets its contract: no loop.
+use Rattle.nightloop.specs.Steps.{takenAs}
 use Rattle.rule.proofs.Ints.{plain}
 use lib.ListN.{length}
 use borrow.Author.Needs.{needs}
 use mathlib.Core.Path.{_≡_}
-use Rattle.nightsheet.proofs.read_on.Statement.{statement}
-use Rattle.nightsheet.proofs.read_on.Tie as tie
+use Rattle.nightloop.proofs.read_on.Statement.{statement}
+use Rattle.nightloop.proofs.read_on.Tie as tie
 
 read-requires : tie.Need-read-requires
 read-requires c κs = search needs

@@ -1,12 +1,12 @@
--- `nightsheet::ended` meets its contract: no loop.
+-- `nightloop::ended` meets its contract: no loop.
 use Rattle.rule.proofs.Ints.{plain}
 use lib.IntN.{pos}
 use lib.Signed.{ltZ}
 use mathlib.Core.Bool.{true, false}
 use mathlib.Core.Path.{_≡_}
 use borrow.Author.Needs.{needs}
-use Rattle.nightsheet.proofs.ended.Statement.{statement}
-use Rattle.nightsheet.proofs.ended.Tie as tie
+use Rattle.nightloop.proofs.ended.Statement.{statement}
+use Rattle.nightloop.proofs.ended.Tie as tie
 
 slice-aggregate-write-all : tie.Need-slice-aggregate-write-all
 slice-aggregate-write-all c = search needs

@@ -1,13 +1,13 @@
--- `nightsheet::step` meets its contract: each arm takes the session on; a read puts any bytes into the chunk.
-use Rattle.nightsheet.proofs.Steps.{stood-taken, stood-ate, stood-closed}
-use Rattle.nightsheet.specs.declared.Next.{Next}
-use Rattle.nightsheet.specs.declared.Run.{Run}
-use Rattle.nightsheet.specs.Steps.{Stood}
+-- `nightloop::step` meets its contract: each arm takes the session on; a read puts any bytes into the chunk.
+use Rattle.nightloop.proofs.Steps.{stood-taken, stood-ate, stood-closed}
+use Rattle.nightloop.specs.declared.Next.{Next}
+use Rattle.nightloop.specs.declared.Run.{Run}
+use Rattle.nightloop.specs.Steps.{Stood}
 use Rattle.tables.specs.Layout.{Tables, tables}
 use mathlib.Core.Path.{_≡_, subst, sym}
 use borrow.Author.Needs.{needs}
-use Rattle.nightsheet.proofs.step.Statement.{statement}
-use Rattle.nightsheet.proofs.step.Tie as tie
+use Rattle.nightloop.proofs.step.Statement.{statement}
+use Rattle.nightloop.proofs.step.Tie as tie
 
 abbrev lent : tie.Start → Tables
 lent s = tables (s .args .accounts .now) (s .args .counters .now) (s .args .pays .now)

@@ -1,15 +1,15 @@
--- `nightsheet::whole` meets its contract: the invariant: the session so far, in the memory as it was lent. The measure is how many steps may follow.
-use Rattle.nightsheet.proofs.Steps.{stood-first, step-left}
-use Rattle.nightsheet.specs.declared.Next.the-variants as N
-use Rattle.nightsheet.specs.Steps.{Memory, runOf, Stood}
+-- `nightloop::whole` meets its contract: the invariant: the session so far, in the memory as it was lent. The measure is how many steps may follow.
+use Rattle.nightloop.proofs.Steps.{stood-first, step-left}
+use Rattle.nightloop.specs.declared.Next.the-variants as N
+use Rattle.nightloop.specs.Steps.{Memory, runOf, Stood}
 use Rattle.session.specs.declared.State.{State}
 use Rattle.tables.specs.Layout.{tables}
 use Prim.Native.Nat.{_<_}
 use mathlib.Core.Path.{_≡_, subst, sym}
 use native.Mathlib.Omega.{arith}
 use borrow.Author.Needs.{needs}
-use Rattle.nightsheet.proofs.whole.Statement.{statement}
-use Rattle.nightsheet.proofs.whole.Tie as tie
+use Rattle.nightloop.proofs.whole.Statement.{statement}
+use Rattle.nightloop.proofs.whole.Tie as tie
 
 abbrev Inv-loop : tie.InvT-loop
 Inv-loop chunk₀ buf₀ counts₀ accounts₀ counters₀ pays₀ out₀ r₀ turns₀ chunk buf counts accounts counters pays out r turns =

@@ -1,5 +1,5 @@
--- `nightsheet::taken` meets its contract: no loop.
-use Rattle.nightsheet.specs.declared.Next.the-variants.{Close, Failed}
+-- `nightloop::taken` meets its contract: no loop.
+use Rattle.nightloop.specs.declared.Next.the-variants.{Close, Failed}
 use Rattle.io.specs.Counts.{clamped}
 use Rattle.rule.proofs.Ints.{plain}
 use lib.IntN.{pos}
@@ -9,8 +9,8 @@ use borrow.Author.Needs.{needs}
 use borrow.Author.Tests.{lt-ltb, le-ltb}
 use mathlib.Core.Bool.{cond}
 use mathlib.Core.Path.{_≡_}
-use Rattle.nightsheet.proofs.taken.Statement.{statement}
-use Rattle.nightsheet.proofs.taken.Tie as tie
+use Rattle.nightloop.proofs.taken.Statement.{statement}
+use Rattle.nightloop.proofs.taken.Tie as tie
 
 count-requires : tie.Need-count-requires
 count-requires c κs = search needs

@@ -1,7 +1,7 @@
--- `nightsheet::goes_on` meets its contract: no loop.
+-- `nightloop::goes_on` meets its contract: no loop.
 use borrow.Author.Needs.{needs}
-use Rattle.nightsheet.proofs.goes_on.Statement.{statement}
-use Rattle.nightsheet.proofs.goes_on.Tie as tie
+use Rattle.nightloop.proofs.goes_on.Statement.{statement}
+use Rattle.nightloop.proofs.goes_on.Tie as tie
 
 enum-told : tie.Need-enum-told
 enum-told c = search needs

@@ -22,9 +22,9 @@ use Rattle.session.specs.Sheet.{sheetOf}
 use Rattle.session.specs.Turns.{Desk}
 use Rattle.session.specs.Feeding.{deskOf, Fit}
 use Rattle.session.specs.Session.{Session}
-use Rattle.nightsheet.specs.declared.Next.{Next}
-use Rattle.nightsheet.specs.declared.Next.the-variants as N
-use Rattle.nightsheet.specs.declared.Run.{Run}
+use Rattle.nightloop.specs.declared.Next.{Next}
+use Rattle.nightloop.specs.declared.Next.the-variants as N
+use Rattle.nightloop.specs.declared.Run.{Run}
 
 -- ---- the memory
 

@@ -1,11 +1,11 @@
--- `nightsheet::close_on` meets its contract: what `close` leaves is what the session comes to, once it is written out.
-use Rattle.nightsheet.proofs.Steps.{fed-closed}
+-- `nightloop::close_on` meets its contract: what `close` leaves is what the session comes to, once it is written out.
+use Rattle.nightloop.proofs.Steps.{fed-closed}
 use Rattle.session.proofs.Desks.{fit-at}
 use native.Mathlib.Omega.{arith}
 use mathlib.Core.Path.{sym}
 use borrow.Author.Needs.{needs}
-use Rattle.nightsheet.proofs.close_on.Statement.{statement}
-use Rattle.nightsheet.proofs.close_on.Tie as tie
+use Rattle.nightloop.proofs.close_on.Statement.{statement}
+use Rattle.nightloop.proofs.close_on.Tie as tie
 
 -- ---- places on the way
 

@@ -1,12 +1,12 @@
--- `nightsheet::eat_on` meets its contract: what `feed` leaves is what the session comes to, once it is written out.
-use Rattle.nightsheet.proofs.Steps.{fed-ate}
+-- `nightloop::eat_on` meets its contract: what `feed` leaves is what the session comes to, once it is written out.
+use Rattle.nightloop.proofs.Steps.{fed-ate}
 use Rattle.session.proofs.Desks.{fit-at}
 use lib.ListN.{length-take}
 use native.Mathlib.Omega.{arith}
 use mathlib.Core.Path.{sym}
 use borrow.Author.Needs.{needs}
-use Rattle.nightsheet.proofs.eat_on.Statement.{statement}
-use Rattle.nightsheet.proofs.eat_on.Tie as tie
+use Rattle.nightloop.proofs.eat_on.Statement.{statement}
+use Rattle.nightloop.proofs.eat_on.Tie as tie
 
 -- ---- places on the way
 

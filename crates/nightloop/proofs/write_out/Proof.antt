@@ -1,15 +1,15 @@
--- `nightsheet::write_out` meets its contract: no loop.
+-- `nightloop::write_out` meets its contract: no loop.
 use Rattle.session.specs.declared.State.{State}
-use Rattle.nightsheet.specs.declared.Next.{Next}
-use Rattle.nightsheet.specs.declared.Next.the-variants.{Failed}
-use Rattle.nightsheet.specs.declared.Run.{Run}
+use Rattle.nightloop.specs.declared.Next.{Next}
+use Rattle.nightloop.specs.declared.Next.the-variants.{Failed}
+use Rattle.nightloop.specs.declared.Run.{Run}
 use lib.ListN.{length-take}
 use native.Mathlib.Omega.{arith}
 use mathlib.Core.Path.{refl, ap}
 use mathlib.Core.Logic.{inl, inr}
 use borrow.Author.Needs.{needs}
-use Rattle.nightsheet.proofs.write_out.Statement.{statement}
-use Rattle.nightsheet.proofs.write_out.Tie as tie
+use Rattle.nightloop.proofs.write_out.Statement.{statement}
+use Rattle.nightloop.proofs.write_out.Tie as tie
 
 abbrev ofRun : Next → Run → State → Run
 ofRun n r w = record { next = n; at = r .at; got = r .got; state = w }

@@ -1,8 +1,8 @@
--- `nightsheet::fed_next` meets its contract: no loop.
+-- `nightloop::fed_next` meets its contract: no loop.
 use mathlib.Core.Path.{sym, _∙_}
 use borrow.Author.Needs.{needs}
-use Rattle.nightsheet.proofs.fed_next.Statement.{statement}
-use Rattle.nightsheet.proofs.fed_next.Tie as tie
+use Rattle.nightloop.proofs.fed_next.Statement.{statement}
+use Rattle.nightloop.proofs.fed_next.Tie as tie
 
 is-over-requires : tie.Need-is-over-requires
 is-over-requires c κs = search needs

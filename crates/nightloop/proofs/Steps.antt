@@ -24,10 +24,10 @@ use Rattle.session.specs.Turns.{Desk, turnOf, goesOn, closeTurn, closesOn}
 use Rattle.session.specs.Feeding.{deskOf, dawn, Fit}
 use Rattle.session.specs.Session.{Session, begun, hands, feeds, writes, closes}
 use Rattle.session.proofs.Theorem.{session-sheet, feed-whole}
-use Rattle.nightsheet.specs.declared.Next.{Next}
-use Rattle.nightsheet.specs.declared.Next.the-variants as N
-use Rattle.nightsheet.specs.declared.Run.{Run}
-use Rattle.nightsheet.specs.Steps.{outBytes, Memory, restIn, deskIn, Ready, isOn, runOf, takenAs, fedNext, closedNext, flushedOf, Wrote, AteTo, Ate, ClosedTo, Closed, Open, Shut, Finished, Stood}
+use Rattle.nightloop.specs.declared.Next.{Next}
+use Rattle.nightloop.specs.declared.Next.the-variants as N
+use Rattle.nightloop.specs.declared.Run.{Run}
+use Rattle.nightloop.specs.Steps.{outBytes, Memory, restIn, deskIn, Ready, isOn, runOf, takenAs, fedNext, closedNext, flushedOf, Wrote, AteTo, Ate, ClosedTo, Closed, Open, Shut, Finished, Stood}
 
 -- ---- before the first step
 
