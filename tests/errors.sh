@@ -1,6 +1,6 @@
 #!/bin/sh
-# What nightsheet and ./run do where reading or writing goes wrong, or goes in pieces: closed and odd inputs, a full disk, short writes, a
-# slow reader, a pipe that closes. What comes out is the sheet, or the beginning of it and a line on standard error. Ends in
+# What nightsheet and ./run do where they are called in another way, or reading or writing goes wrong, or goes in pieces: a word, closed and
+# odd inputs, a full disk, short writes, a slow reader, a pipe that closes. What comes out is the sheet, or the beginning of it and a line on standard error. Ends in
 # 'N passed, M failed'.
 set -u
 cd "$(dirname "$0")/.." || exit 2
@@ -37,6 +37,16 @@ told() {
 
 # begins: what came out is the beginning of the sheet, and not all of it
 begins() { [ "$(wc -c <"$work/got")" -lt "$(wc -c <"$work/sheet")" ] && head -c "$(wc -c <"$work/got")" "$work/sheet" | cmp - "$work/got"; }
+
+# It takes no words: with one it says how it is used, and reads nothing of its input.
+{
+    "$sheet" "$work/day" >"$work/got" 2>"$work/said"
+    status=$?
+    head -c 5 >"$work/left"
+} <"$work/day"
+what "a word" told 0 /dev/null "usage: nightsheet < DAYFILE
+Reads a day file on standard input and writes its sheet on standard output."
+what "a word: the input is left" [ "$(cat "$work/left")" = house ]
 
 "$sheet" <&- >"$work/got" 2>"$work/said"
 status=$?
