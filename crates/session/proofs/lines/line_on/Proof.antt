@@ -16,9 +16,11 @@ read-requires c κs = search needs
 
 take-line-requires : tie.Need-take-line-requires
 take-line-requires c κs =
-    let r = c .before .before .before .before .before .before .before in
+    let lent = c .before .before .before .before .before in
+    let r = lent .before .before in
     let i = r .before .before in
-    let s = i .before .before .before .before .before .before .before in
+    let args = i .before .before .before .before .before in
+    let s = args .before .before in
     let l : Line = lineOf (stateOf (s .args .buf .now) (s .args .s .cut)) in
     (s .pre .0 .0, line-read l (r .read .ensures), i .if1 .taken, s .pre .1 .2)
 
@@ -39,10 +41,13 @@ same-length-5 c = search needs
 
 returns : tie.Need-returns
 returns c =
-    let d = c .before .before .before .before .before .before .before in
-    let r = d .before .before .before .before .before .before .before .before in
+    let back = c .before .before .before .before .before in
+    let d = back .before .before in
+    let lent = d .before .before .before .before .before in
+    let r = lent .before .before .before in
     let i = r .before .before in
-    let s = i .before .before .before .before .before .before .before in
+    let args = i .before .before .before .before .before in
+    let s = args .before .before in
     let t : Tables = tables (s .args .accounts .now) (s .args .counters .now) (s .args .pays .now) in
     let l : Line = lineOf (stateOf (s .args .buf .now) (s .args .s .cut)) in
     (answered-taken (s .args .s) t (s .args .out .now) l (s .pre .0 .1) _ (i .if1 .taken) (r .read .ensures) (d .take-line .ensures .0), d .take-line .ensures .1)

@@ -22,8 +22,8 @@ tell-requires c κs =
     let z = y .before .before .before .before .before in
     let s = z .before .before .before .before in
     let t : Tables = tables (s .args .accounts .now) (s .args .counters .now) (s .args .pays .now) in
-    let a = c .before .before .before .before .before .before .answer in
-    (s .pre .3, did-kept (s .args .s .lines + 1) (s .args .s .stage) t (meant (s .args .e) (s .args .counts .now)) (a .result) (tables (a .last .0) (a .last .1 .0) (a .last .1 .1 .0)) (omega arith) (λ i. omega (arith, c .before .before .before .before .before .before .before .before .before .before .before .before .before .slice-known .given i)) (s .pre .0 .stands) (a .ensures) .ranges)
+    let a = y .answer in
+    (s .pre .3, did-kept (s .args .s .lines + 1) (s .args .s .stage) t (meant (s .args .e) (s .args .counts .now)) (a .result) (tables (a .last .0) (a .last .1 .0) (a .last .1 .1 .0)) (omega arith) (λ i. omega (arith, z .before .before .slice-known .given i)) (s .pre .0 .stands) (a .ensures) .ranges)
 
 between-requires : tie.Need-between-requires
 between-requires c κs = search needs
@@ -50,8 +50,8 @@ returns c =
     let t : Tables = tables (s .args .accounts .now) (s .args .counters .now) (s .args .pays .now) in
     let a = z .answer in
     let u : Tables = tables (a .last .0) (a .last .1 .0) (a .last .1 .1 .0) in
-    let k = did-kept (s .args .s .lines + 1) (s .args .s .stage) t (meant (s .args .e) (s .args .counts .now)) (a .result) u (omega arith) (λ i. omega (arith, c .before .before .before .before .before .before .before .before .before .before .before .before .before .before .before .before .before .slice-known .given i)) (s .pre .0 .stands) (a .ensures) in
-    let p = c .before .before .before .tell in
+    let k = did-kept (s .args .s .lines + 1) (s .args .s .stage) t (meant (s .args .e) (s .args .counts .now)) (a .result) u (omega arith) (λ i. omega (arith, v .before .before .slice-known .given i)) (s .pre .0 .stands) (a .ensures) in
+    let p = x .tell in
     rw (c .between .ensures) (
       taken (s .args .s) t (s .args .out .now) (meant (s .args .e) (s .args .counts .now)) (a .result) u (p .result) _ (a .ensures) (p .ensures .0),
       (record { few = omega arith; room = p .ensures .1; held = omega arith; stands = k .stands }, refl, p .ensures .2),
