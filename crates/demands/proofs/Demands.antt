@@ -55,7 +55,7 @@ use Rattle.sheet.specs.Lines.{textOf}
 use Rattle.night.specs.declared.Stage.the-variants.{Day as ItIsDay}
 use Rattle.daylines.specs.Calls.{refusal}
 use Rattle.night.specs.Lines.{says, dayDoes}
-use Rattle.session.specs.Sheet.{textsOf, stepOf, sheetOf}
+use Rattle.desk.specs.Sheet.{textsOf, stepOf, sheetOf}
 use Rattle.nights.specs.Files.{nightAfter, OpenAlike, Whole, LastResolves, EndsIn, balancesIn, creditsIn, membersOf, madeAfter, tablesAfter, closingOf, closingIn}
 use Rattle.nights.specs.Printed.{judgedLine, saysIn, readOff, Reads}
 use Rattle.nights.specs.Forms.{Opening}

@@ -22,7 +22,7 @@ use Rattle.dayfile.specs.Entries.{numbersOf}
 use Rattle.sheet.specs.Lines.{tabbed}
 use Rattle.dayfile.specs.Lines.{linesFrom}
 use Rattle.dayfile.specs.Chunks.{runOf}
-use Rattle.session.specs.Sheet.{sheetOf}
+use Rattle.desk.specs.Sheet.{sheetOf}
 
 -- the input
 abbrev pub exampleFile : List ℕ

@@ -15,13 +15,15 @@ use Rattle.io.specs.Counts.{clamped}
 use Rattle.sheet.specs.Room.{leastRoom, hasRoom}
 use Rattle.tables.specs.Layout.{Tables}
 use Rattle.tables.proofs.Tests.{and-both}
-use Rattle.session.specs.declared.State.{State}
-use Rattle.session.specs.declared.Turn.{Turn}
+use Rattle.desk.specs.declared.State.{State}
+use Rattle.desk.specs.declared.Turn.{Turn}
 use Rattle.night.specs.Stages.{isOver}
-use Rattle.session.specs.Sheet.{morning}
+use Rattle.desk.specs.Sheet.{morning}
 use Rattle.session.specs.Stops.{Stops}
-use Rattle.session.specs.Turns.{Desk, turnOf, goesOn, closeTurn, closesOn}
-use Rattle.session.specs.Feeding.{deskOf, dawn, Fit}
+use Rattle.desk.specs.Desk.{Desk}
+use Rattle.session.specs.Turns.{turnOf, goesOn, closeTurn, closesOn}
+use Rattle.desk.specs.States.{deskOf, Fit}
+use Rattle.session.specs.Feeding.{dawn}
 use Rattle.session.specs.Session.{Session, begun, hands, feeds, writes, closes}
 use Rattle.session.proofs.Theorem.{session-sheet, feed-whole}
 use Rattle.nightloop.specs.declared.Next.{Next}

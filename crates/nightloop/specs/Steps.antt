@@ -1,4 +1,4 @@
--- The program's steps, and what they make of a session of the night (sheet/specs/Session.antt): which bytes were read and handed on, and
+-- The program's steps, and what they make of a session of the night (session/specs/Session.antt): which bytes were read and handed on, and
 -- which were written out. r is where the program stood before a step and x where it stands after it; t are the tables.
 use mathlib.Core.Path.{_≡_}
 use mathlib.Core.Bool.{Bool, true, false, cond}
@@ -16,11 +16,11 @@ use Rattle.dayfile.specs.Entries.{mostCounts}
 use Rattle.tables.specs.Sizes.{places, table}
 use Rattle.tables.specs.Layout.{Tables}
 use Rattle.night.specs.declared.Stage.{Stage}
-use Rattle.session.specs.declared.State.{State}
+use Rattle.desk.specs.declared.State.{State}
 use Rattle.night.specs.Stages.{isOver}
-use Rattle.session.specs.Sheet.{sheetOf}
-use Rattle.session.specs.Turns.{Desk}
-use Rattle.session.specs.Feeding.{deskOf, Fit}
+use Rattle.desk.specs.Sheet.{sheetOf}
+use Rattle.desk.specs.Desk.{Desk}
+use Rattle.desk.specs.States.{deskOf, Fit}
 use Rattle.session.specs.Session.{Session}
 use Rattle.nightloop.specs.declared.Next.{Next}
 use Rattle.nightloop.specs.declared.Next.the-variants as N

@@ -1,6 +1,6 @@
 // The loop of a program that reads a day file on standard input and writes its sheet on standard output, step by step. What is said stands
 // there before more input is awaited.
-use session::State;
+use desk::State;
 ghost use mathlib.Core.Path.{_≡_};
 ghost use mathlib.Core.Bool.{cond, _&&_};
 ghost use Prim.Native.Nat.{_≤_};
@@ -9,7 +9,7 @@ ghost use lib.IntN.{pos};
 ghost use lib.Signed.{ltZ};
 ghost use lib.ListN.{length, take};
 ghost use Rattle.tables.specs.Layout.{tables};
-ghost use Rattle.session.specs.Sheet.{morning};
+ghost use Rattle.desk.specs.Sheet.{morning};
 ghost use Rattle.nightloop.specs.declared.Next.the-variants.{Close, Failed};
 ghost use Rattle.nightloop.specs.Steps.{outBytes, Memory, Ready, isOn, takenAs, Took, fedNext, closedNext, Wrote, deskIn, Ate, Closed, Stood};
 

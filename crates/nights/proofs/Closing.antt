@@ -19,7 +19,7 @@ use Rattle.sheet.specs.declared.Says.{Says}
 use Rattle.sheet.specs.declared.Says.the-variants as S
 use Rattle.sheet.specs.Lines.{textOf}
 use Rattle.night.specs.Lines.{balanceSays}
-use Rattle.session.specs.Sheet.{textsOf}
+use Rattle.desk.specs.Sheet.{textsOf}
 use Rattle.days.specs.Days.{Equal}
 use Rattle.nights.specs.Files.{closingOf, closingIn}
 

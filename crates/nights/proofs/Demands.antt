@@ -28,7 +28,7 @@ use Rattle.night.specs.Lines.{balanceSays}
 use Rattle.dayfile.specs.Lines.{Line, linesOf}
 use Rattle.dayfile.specs.Chunks.{runOf}
 use Rattle.dayfile.specs.Entries.{mostLines}
-use Rattle.session.specs.Sheet.{Night, textsOf, entryIn, stepOf, morning, closed, sheetOf}
+use Rattle.desk.specs.Sheet.{Night, textsOf, entryIn, stepOf, morning, closed, sheetOf}
 use Rattle.days.specs.Days.{Request, after, accepted, afterAll, made, Inside, Ended, openingOf, Begun, Equal}
 use Rattle.days.proofs.Joins.{deposits-join, payments-join}
 use Rattle.days.proofs.Chains.{chain-carries, after-join, made-join, inside-first}

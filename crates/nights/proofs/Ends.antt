@@ -26,7 +26,7 @@ use Rattle.daylines.specs.Calls.{refusal}
 use Rattle.night.specs.Lines.{Did, quiet, stops, houseDoes, given, balancesGiven, linesGiven, opensTo, openDoes, givenDoes, memberDoes, doesOf}
 use Rattle.dayfile.specs.Entries.{mostLines, Entry}
 use Rattle.night.specs.Stages.{told, isOver}
-use Rattle.session.specs.Sheet.{Night, finished, entryIn, after, stopped, stepOf, morning, closed}
+use Rattle.desk.specs.Sheet.{Night, finished, entryIn, after, stopped, stepOf, morning, closed}
 use Rattle.nights.specs.Files.{isEnd, nightAfter, Opens, requestsAfter, EndsIn, Comes, whole, refused}
 use Rattle.nights.proofs.Runs.{Gone, run-join, over-run}
 use Rattle.nights.proofs.Demands.{day-gone}

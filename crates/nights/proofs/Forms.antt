@@ -24,7 +24,7 @@ use Rattle.night.specs.declared.Stage.{Stage}
 use Rattle.night.specs.declared.Stage.the-variants as G
 use Rattle.night.specs.Lines.{Did, quiet, stops, houseDoes, given, balancesGiven, linesGiven, openStage, openDoes, givenDoes, memberDoes, dayDoes, doesOf}
 use Rattle.night.specs.Stages.{isOver, told}
-use Rattle.session.specs.Sheet.{Night, after, stopped, entryIn, stepOf, morning}
+use Rattle.desk.specs.Sheet.{Night, after, stopped, entryIn, stepOf, morning}
 use Rattle.nights.specs.Files.{nightAfter, Opens}
 use Rattle.nights.specs.Forms.{entriesIn, memberLines, Opening}
 use Rattle.nights.proofs.Runs.{run-join}

@@ -31,7 +31,7 @@ use Rattle.night.specs.Lines.{Did, quiet, stops, houseDoes, given, openStage, b
 use Rattle.night.specs.Stands.{Sized, Giving}
 use Rattle.dayfile.specs.Entries.{mostLines, Entry}
 use Rattle.night.specs.Stages.{told, isOver}
-use Rattle.session.specs.Sheet.{Night, entryIn, after, stopped, stepOf, morning}
+use Rattle.desk.specs.Sheet.{Night, entryIn, after, stopped, stepOf, morning}
 use Rattle.days.specs.Days.{Begun}
 use Rattle.nights.specs.Files.{balanceOf, creditOf, balancesIn, creditsIn, membersOf, nightAfter, Opens, openedBy}
 use Rattle.nights.proofs.Runs.{run-join}

@@ -35,7 +35,7 @@ use Rattle.night.specs.declared.Stage.the-variants as G
 use Rattle.daylines.specs.Calls.{refusal, lineOf, paySays, depositSays, releaseSays, groupSays, callDoes}
 use Rattle.night.specs.Lines.{says, dayDoes}
 use Rattle.night.specs.Stages.{restSays}
-use Rattle.session.specs.Sheet.{Night, textsOf, entryIn, stepOf, morning, closed, sheetOf}
+use Rattle.desk.specs.Sheet.{Night, textsOf, entryIn, stepOf, morning, closed, sheetOf}
 use Rattle.days.specs.Days.{accepted, made}
 use Rattle.days.proofs.Joins.{deposits-join, payments-join}
 use Rattle.days.proofs.Chains.{chain-carries, made-join}

@@ -5,7 +5,7 @@ use Rattle.tables.specs.Layout.{Tables}
 use Rattle.dayfile.specs.Entries as E
 use Rattle.dayfile.specs.Entries.{DayLine, Entry}
 use Rattle.dayfile.specs.Lines.{Line}
-use Rattle.session.specs.Sheet.{entryIn}
+use Rattle.desk.specs.Sheet.{entryIn}
 use Rattle.days.specs.Days.{afterAll, Inside}
 use Rattle.days.proofs.Chains.{inside-join}
 use Rattle.nights.specs.Files.{requestOf, requestsOf, requestsIn}

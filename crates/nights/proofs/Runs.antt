@@ -16,7 +16,7 @@ use Rattle.night.specs.declared.Stage.the-variants as G
 use Rattle.night.specs.Lines.{Did, quiet, dayDoes, doesOf, endSays}
 use Rattle.dayfile.specs.Entries.{mostLines}
 use Rattle.night.specs.Stages.{told, isOver}
-use Rattle.session.specs.Sheet.{Night, textsOf, finished, entryIn, after, stopped, stepOf, closed}
+use Rattle.desk.specs.Sheet.{Night, textsOf, finished, entryIn, after, stopped, stepOf, closed}
 use Rattle.session.proofs.Futures.{quiet-same}
 use Rattle.session.proofs.Over.{over-quiet}
 use Rattle.days.specs.Days.{Request, afterAll}

@@ -16,7 +16,7 @@ use Rattle.night.specs.declared.Stage.{Stage}
 use Rattle.night.specs.declared.Stage.the-variants as G
 use Rattle.night.specs.Lines.{dayDoes, doesOf}
 use Rattle.night.specs.Stages.{isOver, told}
-use Rattle.session.specs.Sheet.{Night, after, stopped, entryIn, stepOf, morning}
+use Rattle.desk.specs.Sheet.{Night, after, stopped, entryIn, stepOf, morning}
 use Rattle.nights.specs.Files.{isEnd, nightAfter, Opens, Whole}
 use Rattle.nights.proofs.Runs.{run-join}
 

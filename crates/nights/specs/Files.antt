@@ -19,7 +19,7 @@ use Rattle.night.specs.declared.Stage.the-variants as G
 use Rattle.daylines.specs.Calls.{refusal}
 use Rattle.night.specs.Lines.{endSays}
 use Rattle.dayfile.specs.Entries.{mostLines, DayLine, Entry}
-use Rattle.session.specs.Sheet.{Night, textsOf, entryIn, stepOf, morning, sheetOf}
+use Rattle.desk.specs.Sheet.{Night, textsOf, entryIn, stepOf, morning, sheetOf}
 use Rattle.days.specs.Days.{Request, deposits, submits, releases, groups, resolves, afterAll, made}
 
 -- ---- the requests of a day

@@ -7,7 +7,7 @@ use lib.ListN.{length}
 use Rattle.dayfile.specs.Entries as E
 use Rattle.dayfile.specs.Entries.{Entry}
 use Rattle.dayfile.specs.Lines.{Line}
-use Rattle.session.specs.Sheet.{entryIn}
+use Rattle.desk.specs.Sheet.{entryIn}
 
 -- what some lines say
 abbrev pub entriesIn : List Line → List Entry

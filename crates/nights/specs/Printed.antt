@@ -26,7 +26,7 @@ use Rattle.sheet.specs.declared.Says.the-variants as S
 use Rattle.dayfile.specs.Lines.{Line}
 use Rattle.daylines.specs.Calls.{refusal, resolveSays}
 use Rattle.night.specs.Lines.{dayDoes}
-use Rattle.session.specs.Sheet.{Night, entryIn, stepOf}
+use Rattle.desk.specs.Sheet.{Night, entryIn, stepOf}
 
 -- ---- one line
 

@@ -10,7 +10,7 @@ use Rattle.dayfile.proofs.Chunks.{feed-under}
 use Rattle.night.specs.Lines.{doesOf}
 use Rattle.dayfile.specs.Entries.{mostLines}
 use Rattle.night.specs.Stages.{isOver}
-use Rattle.session.specs.Sheet.{Night, finished, entryIn, after, stopped, stepOf, closed}
+use Rattle.desk.specs.Sheet.{Night, finished, entryIn, after, stopped, stepOf, closed}
 
 abbrev pub behind : List ℕ → Night → Night
 behind p d = record { lines = d .lines; stage = d .stage; tables = d .tables; sheet = p ++ d .sheet }

@@ -18,8 +18,9 @@ use Rattle.night.specs.declared.Stage.{Stage}
 use Rattle.night.specs.declared.Stage.the-variants as G
 use Rattle.night.specs.Lines.{balanceSays, endSays}
 use Rattle.night.specs.Stages.{isEnding, isOver, restSays, nextStage, told}
-use Rattle.session.specs.Sheet.{Night, textsOf, finished, stopped, answered, stepOf, closed}
-use Rattle.session.specs.Turns.{Desk, endSaid, endTurn, eatenTo, eatTurn, turnOf, lastOf, lastTurn, closeTurn, comesTo, closesTo}
+use Rattle.desk.specs.Sheet.{Night, textsOf, finished, stopped, answered, stepOf, closed}
+use Rattle.desk.specs.Desk.{Desk, endSaid, eatenTo, eatTurn}
+use Rattle.session.specs.Turns.{endTurn, turnOf, lastOf, lastTurn, closeTurn, comesTo, closesTo}
 
 -- ---- a night that is not at its end has nothing to say
 

@@ -1,8 +1,5 @@
 pub mod Stopping
 pub mod Futures
-pub mod Writing
-pub mod Steps
-pub mod Endings
 pub mod Desks
 pub mod Over
 pub mod Behind

@@ -9,7 +9,7 @@ use Rattle.dayfile.specs.Chunks.{none, pushed, lineOf, Fed, byteOf, feedOf, end
 use Rattle.night.specs.declared.Stage.{Stage}
 use Rattle.night.specs.declared.Stage.the-variants as G
 use Rattle.night.specs.Stages.{isEnding, isOver}
-use Rattle.session.specs.Sheet.{Night, stopped, stepOf, closed}
+use Rattle.desk.specs.Sheet.{Night, stopped, stepOf, closed}
 use Rattle.session.proofs.Futures.{quiet-same}
 
 pub over-quiet : (g : Stage) → isOver g ≡ true → isEnding g ≡ false

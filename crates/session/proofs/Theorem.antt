@@ -17,12 +17,14 @@ use Rattle.sheet.specs.Room.{leastRoom, hasRoom}
 use Rattle.night.specs.declared.Stage.{Stage}
 use Rattle.night.specs.declared.Stage.the-variants as G
 use Rattle.tables.specs.Layout.{Tables}
-use Rattle.session.specs.declared.State.{State}
+use Rattle.desk.specs.declared.State.{State}
 use Rattle.night.specs.Stages.{isEnding, isOver}
-use Rattle.session.specs.Sheet.{Night, finished, stepOf, morning, closed, sheetOf}
+use Rattle.desk.specs.Sheet.{Night, finished, stepOf, morning, closed, sheetOf}
 use Rattle.session.specs.Stops.{Stops}
-use Rattle.session.specs.Turns.{Desk, endTurn, turnOf, lastTurn, closeTurn, isOn, goesOn, closesOn, fedOf, comesTo, closesTo}
-use Rattle.session.specs.Feeding.{deskOf, dawn}
+use Rattle.desk.specs.Desk.{Desk}
+use Rattle.session.specs.Turns.{endTurn, turnOf, lastTurn, closeTurn, isOn, goesOn, closesOn, fedOf, comesTo, closesTo}
+use Rattle.desk.specs.States.{deskOf}
+use Rattle.session.specs.Feeding.{dawn}
 use Rattle.session.specs.Session.{firstDesk, cleared, Session, begun, hands, feeds, writes, closes}
 use Rattle.session.proofs.Stopping.{stops-here, stops-same}
 use Rattle.session.proofs.Futures.{quiet-same, turn-comes, close-closes}

@@ -10,11 +10,12 @@ use lib.Seq.{length-take-le}
 use Rattle.dayfile.specs.Lines.{mostBytes}
 use Rattle.night.specs.declared.Stage.{Stage}
 use Rattle.tables.specs.Layout.{Tables}
-use Rattle.session.specs.declared.State.{State}
-use Rattle.session.specs.declared.Turn.{Turn}
+use Rattle.desk.specs.declared.State.{State}
+use Rattle.desk.specs.declared.Turn.{Turn}
 use Rattle.session.specs.Stops.{Stops}
-use Rattle.session.specs.Turns.{Desk, turnOf, closeTurn, goesOn, closesOn}
-use Rattle.session.specs.Feeding.{deskOf, Grown, Fit}
+use Rattle.desk.specs.Desk.{Desk}
+use Rattle.session.specs.Turns.{turnOf, closeTurn, goesOn, closesOn}
+use Rattle.desk.specs.States.{deskOf, Grown, Fit}
 use Rattle.session.proofs.Stopping.{stops-one}
 
 -- a result of a call that found the first used bytes of the output written, with the lists as they are then

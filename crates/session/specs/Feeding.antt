@@ -1,41 +1,14 @@
--- The night as the code holds it between two turns: numbers by value, and lent lists.
-use mathlib.Core.Path.{_≡_}
-use mathlib.Core.Bool.{Bool, false, not, _&&_}
-use mathlib.Core.List.{List}
-use Prim.Native.Nat.{ℕ, _+_, _-_, _≤_}
+-- The night as the code holds it: where it begins, and where it goes on.
+use mathlib.Core.Bool.{Bool, not, _&&_}
+use Prim.Native.Nat.{ℕ}
 use lib.Dec.{ltb}
-use lib.ListN.{take, drop}
 use Rattle.sheet.specs.Room.{hasRoom}
-use Rattle.dayfile.specs.Lines.{mostBytes}
-use Rattle.dayfile.specs.declared.lines.Cut.{Cut}
-use Rattle.dayfile.specs.Chunks.{stateOf}
-use Rattle.night.specs.declared.Stage.{Stage}
 use Rattle.night.specs.declared.Stage.the-variants as G
-use Rattle.tables.specs.Sizes.{members}
-use Rattle.tables.specs.Layout.{Tables}
-use Rattle.dayfile.specs.Entries.{mostLines}
 use Rattle.night.specs.Stages.{isOver}
-use Rattle.night.specs.Stands.{Stands}
-use Rattle.session.specs.declared.State.{State}
-use Rattle.session.specs.declared.Turn.{Turn}
-use Rattle.session.specs.Sheet.{Night}
-use Rattle.session.specs.Turns.{Desk, isOn}
-
--- the night that a state, the tables and the lent output hold
-abbrev pub nightOf : State → Tables → List ℕ → Night
-nightOf s t out = record { lines = s .lines; stage = s .stage; tables = t; sheet = take (s .used) out }
-
--- with the bytes to come, and what the lent buffer holds of the next line
-abbrev pub deskOf : List ℕ → State → Tables → List ℕ → List ℕ → Desk
-deskOf rest s t out buf = record { rest = rest; night = nightOf s t out; held = stateOf buf (s .cut) }
-
--- no line begun
-abbrev pub fresh : Cut
-fresh = record { held = 0; «is_long» = false }
-
--- a state with no line begun
-abbrev pub stateAt : ℕ → Stage → ℕ → State
-stateAt n g u = record { lines = n; stage = g; used = u; cut = fresh }
+use Rattle.desk.specs.declared.State.{State}
+use Rattle.desk.specs.declared.Turn.{Turn}
+use Rattle.desk.specs.States.{stateAt}
+use Rattle.session.specs.Turns.{isOn}
 
 -- before the first line
 abbrev pub dawn : State
@@ -48,27 +21,3 @@ goesAt n room t = hasRoom room (t .state .used) && isOn (t .state .stage) (ltb (
 -- and at the end of the input
 abbrev pub closesAt : ℕ → State → Bool
 closesAt room s = hasRoom room (s .used) && not (isOver (s .stage))
-
--- at most how many lines the end has: one for each member, and one for the money
-abbrev pub mostEnding : ℕ
-mostEnding = members + 1
-
--- at most how many turns are left, where there are n bytes
-abbrev pub turnsLeft : Stage → ℕ → ℕ
-turnsLeft G.House n = mostEnding + 2 + n
-turnsLeft (G.Members count k) n = mostEnding + 2 + n
-turnsLeft G.Day n = mostEnding + 2 + n
-turnsLeft (G.Ending k) n = mostEnding + 1 - k
-turnsLeft G.Over n = 0
-
--- bytes were written behind the first u of the output, up to v, and none behind those
-pub record Grown (u v : ℕ) (out out₁ : List ℕ) : Type 0 where
-  pub on : u ≤ v
-  pub rest : drop v out₁ ≡ drop v out
-
--- a state that suits its tables, with n bytes of output
-pub record Fit (s : State) (t : Tables) (n : ℕ) : Type 0 where
-  pub few : s .lines ≤ mostLines
-  pub room : s .used ≤ n
-  pub held : s .cut .held ≤ mostBytes
-  pub stands : Stands (s .stage) t

@@ -1,4 +1,3 @@
-pub mod Sheet
 pub mod Stops
 pub mod Turns
 pub mod Feeding

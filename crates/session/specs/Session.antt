@@ -4,9 +4,10 @@ use mathlib.Core.Path.{_≡_}
 use mathlib.Core.List.{List, [], _++_}
 use Prim.Native.Nat.{ℕ}
 use Rattle.dayfile.specs.Chunks.{none}
-use Rattle.session.specs.Sheet.{morning}
+use Rattle.desk.specs.Sheet.{morning}
 use Rattle.session.specs.Stops.{Stops}
-use Rattle.session.specs.Turns.{Desk, turnOf, goesOn, closeTurn, closesOn}
+use Rattle.desk.specs.Desk.{Desk}
+use Rattle.session.specs.Turns.{turnOf, goesOn, closeTurn, closesOn}
 
 -- before the first line
 abbrev pub firstDesk : Desk

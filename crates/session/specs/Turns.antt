@@ -1,50 +1,21 @@
--- One turn after the other: what is to come of a chunk, the night as it stands, and what is held of the next line; what a turn makes of
--- it, and where it stops. A turn says the next line of the end, or reads the next line.
+-- One turn after the other: what a turn makes of the desk, and where it stops. A turn says the next line of the end, or reads the next line.
 use mathlib.Core.Bool.{Bool, cond, not, _&&_, _||_}
-use mathlib.Core.List.{List, [], _∷_, _++_}
-use Prim.Native.Nat.{ℕ, _+_}
+use mathlib.Core.List.{List, [], _∷_}
+use Prim.Native.Nat.{ℕ}
 use lib.Dec.{ltb}
-use lib.ListN.{length, take, drop}
-use Rattle.dayfile.specs.Chunks.{Held, none, lineOf, Eaten, eatOf, Fed, feedOf, finish}
+use lib.ListN.{length}
+use Rattle.dayfile.specs.Chunks.{none, lineOf, Fed, feedOf, finish}
 use Rattle.sheet.specs.Room.{hasRoom}
 use Rattle.night.specs.declared.Stage.{Stage}
-use Rattle.night.specs.Stages.{isEnding, isOver, restSays, nextStage}
-use Rattle.session.specs.Sheet.{Night, textsOf, finished, stopped, answered, stepOf, closed}
-
--- between two turns: bytes to come, the night of which the end may have lines to say, and what is held of the next line
-pub record Desk : Type 0 where
-  pub rest : List ℕ
-  pub night : Night
-  pub held : Held
+use Rattle.night.specs.Stages.{isEnding, isOver}
+use Rattle.desk.specs.Sheet.{Night, finished, stopped, answered, stepOf, closed}
+use Rattle.desk.specs.Desk.{Desk, endSaid, eatTurn}
 
 -- ---- one turn
 
--- the next line of the end is said
-abbrev pub endSaid : Night → Night
-endSaid d =
-    record {
-      lines = d .lines;
-      stage = nextStage (d .stage) (d .tables);
-      tables = d .tables;
-      sheet = d .sheet ++ textsOf (take 1 (restSays (d .stage) (d .tables)));
-    }
-
--- a turn that says it
+-- a turn that says the next line of the end
 abbrev pub endTurn : Desk → Desk
 endTurn d = record { rest = d .rest; night = endSaid (d .night); held = d .held }
-
--- bytes are eaten: a line that they end is answered, and one that they do not end is held
-abbrev pub eatenTo : Desk → Eaten → Desk
-eatenTo d e =
-    record {
-      rest = drop (e .used) (d .rest);
-      night = cond (e .done) (answered (d .night) (lineOf (e .held))) (d .night);
-      held = cond (e .done) none (e .held);
-    }
-
--- the next line of the bytes to come, or all of them
-abbrev pub eatTurn : Desk → Desk
-eatTurn d = eatenTo d (eatOf (d .rest) (d .held))
 
 -- a turn while there is input
 abbrev pub turnOf : Desk → Desk

@@ -1,10 +1,9 @@
 // The night as a library: fed the bytes of a day file in chunks of any size, it writes the sheet into a lent output.
-mod ends;
-mod lines;
-mod out;
 mod turns;
 
-use dayfile::lines::Cut;
+use desk::State;
+use desk::Turn;
+use desk::between;
 use night::Stage;
 pub use night::is_over;
 ghost use mathlib.Core.Path.{_≡_};
@@ -16,21 +15,8 @@ ghost use Rattle.dayfile.specs.Lines.{mostBytes};
 ghost use Rattle.tables.specs.Layout.{tables};
 ghost use Rattle.session.specs.Stops.{Stops};
 ghost use Rattle.session.specs.Turns.{turnOf, goesOn, closeTurn, closesOn};
-ghost use Rattle.session.specs.Feeding.{deskOf, stateAt, dawn, Grown, Fit};
-
-// The night between lines: lines read, where it stands, bytes of the output used, and what is held of the next line.
-pub struct State {
-    pub lines: u64,
-    pub stage: Stage,
-    pub used: usize,
-    pub cut: Cut,
-}
-
-// The next place of a chunk, and the night there.
-pub struct Turn {
-    pub at: usize,
-    pub state: State,
-}
+ghost use Rattle.desk.specs.States.{deskOf, Grown, Fit};
+ghost use Rattle.session.specs.Feeding.{dawn};
 
 // Before the first line.
 pub fn start() -> State
@@ -99,20 +85,4 @@ pub fn close(
         t = turns::close_on(buf, counts, accounts, counters, pays, out, t);
     }
     t
-}
-
-// A state with no line begun.
-fn between(lines: u64, stage: Stage, used: usize) -> State
-    ensures { λ r. ⌜ r ≡ stateAt lines stage used ⌝ }
-{
-    let cut = Cut {
-        held: 0,
-        is_long: false,
-    };
-    State {
-        lines,
-        stage,
-        used,
-        cut,
-    }
 }

@@ -1,11 +1,11 @@
 // One turn, and whether another follows: a line of the end is said, or the next line is read.
-use crate::State;
-use crate::Turn;
-use crate::ends::end_on;
 use crate::is_over;
-use crate::lines::line_on;
-use crate::lines::stop;
-use dayfile::lines::Cut;
+use desk::State;
+use desk::Turn;
+use desk::chunks::eat_on;
+use desk::ends::end_on;
+use desk::lines::line_on;
+use desk::lines::stop;
 use night::is_ending;
 ghost use mathlib.Core.Path.{_≡_};
 ghost use mathlib.Core.Bool.{true, false};
@@ -17,8 +17,9 @@ ghost use Rattle.dayfile.specs.Lines.{mostBytes};
 ghost use Rattle.sheet.specs.Room.{leastRoom};
 ghost use Rattle.tables.specs.Layout.{tables};
 ghost use Rattle.night.specs.Stages.{isEnding, isOver};
-ghost use Rattle.session.specs.Turns.{eatTurn, turnOf, lastOf, closeTurn};
-ghost use Rattle.session.specs.Feeding.{nightOf, deskOf, fresh, goesAt, closesAt, turnsLeft, Grown, Fit};
+ghost use Rattle.session.specs.Turns.{turnOf, lastOf, closeTurn};
+ghost use Rattle.desk.specs.States.{nightOf, deskOf, fresh, turnsLeft, Grown, Fit};
+ghost use Rattle.session.specs.Feeding.{goesAt, closesAt};
 
 // Whether a turn follows in a chunk of n bytes, with so many bytes of output: there is room, and lines of the end are to be said, or the
 // night is not over and bytes are left.
@@ -75,84 +76,6 @@ pub fn turn_on(
         return Turn { at: from, state: t };
     }
     eat_on(chunk, from, buf, counts, accounts, counters, pays, out, s)
-}
-
-// The next line of a chunk, or what is left of the chunk. A line that stands in the chunk as a whole is read there.
-fn eat_on(
-    chunk: &[u8],
-    from: usize,
-    buf: &mut [u8],
-    counts: &mut [u64],
-    accounts: &mut [i64],
-    counters: &mut [u32],
-    pays: &mut [u64],
-    out: &mut [u8],
-    s: State,
-) -> Turn
-    requires { ⌜ Fit s (tables (now accounts) (now counters) (now pays)) (length (now out)) × (isOver (s .stage) ≡ false) ⌝ }
-    requires { ⌜ (length (now counts) ≡ mostCounts) × (length (now buf) ≡ mostBytes) × (from < length (now chunk)) × (s .used + leastRoom ≤ length (now out)) ⌝ }
-    ensures { λ r. ⌜ deskOf (drop (r .at) (now (chunk .entry))) (r .state) (tables (now (accounts .exit)) (now (counters .exit)) (now (pays .exit))) (now (out .exit)) (now (buf .exit)) ≡ eatTurn (deskOf (drop from (now (chunk .entry))) s (tables (now (accounts .entry)) (now (counters .entry)) (now (pays .entry))) (now (out .entry)) (now (buf .entry))) ⌝ }
-    ensures { λ r. ⌜ Fit (r .state) (tables (now (accounts .exit)) (now (counters .exit)) (now (pays .exit))) (length (now (out .entry))) × (from < r .at) × (r .at ≤ length (now (chunk .entry))) × Grown (s .used) (r .state .used) (now (out .entry)) (now (out .exit)) ⌝ }
-{
-    let e = dayfile::lines::whole(chunk, from, s.cut);
-    if e < chunk.len() {
-        let stage = s.stage;
-        let t = State {
-            lines: s.lines,
-            stage,
-            used: s.used,
-            cut: held(e - from),
-        };
-        let r = line_on(&chunk[from..e], counts, accounts, counters, pays, out, t);
-        return Turn {
-            at: e + 1,
-            state: r,
-        };
-    }
-    part_on(chunk, from, buf, counts, accounts, counters, pays, out, s)
-}
-
-// So many bytes of a line.
-fn held(n: usize) -> Cut
-    ensures { λ r. ⌜ r ≡ record { held = n; «is_long» = false } ⌝ }
-{
-    Cut {
-        held: n,
-        is_long: false,
-    }
-}
-
-// The next line of a chunk, by way of the buffer, or what is left of the chunk.
-fn part_on(
-    chunk: &[u8],
-    from: usize,
-    buf: &mut [u8],
-    counts: &mut [u64],
-    accounts: &mut [i64],
-    counters: &mut [u32],
-    pays: &mut [u64],
-    out: &mut [u8],
-    s: State,
-) -> Turn
-    requires { ⌜ Fit s (tables (now accounts) (now counters) (now pays)) (length (now out)) × (isOver (s .stage) ≡ false) ⌝ }
-    requires { ⌜ (length (now counts) ≡ mostCounts) × (length (now buf) ≡ mostBytes) × (from < length (now chunk)) × (s .used + leastRoom ≤ length (now out)) ⌝ }
-    ensures { λ r. ⌜ deskOf (drop (r .at) (now (chunk .entry))) (r .state) (tables (now (accounts .exit)) (now (counters .exit)) (now (pays .exit))) (now (out .exit)) (now (buf .exit)) ≡ eatTurn (deskOf (drop from (now (chunk .entry))) s (tables (now (accounts .entry)) (now (counters .entry)) (now (pays .entry))) (now (out .entry)) (now (buf .entry))) ⌝ }
-    ensures { λ r. ⌜ Fit (r .state) (tables (now (accounts .exit)) (now (counters .exit)) (now (pays .exit))) (length (now (out .entry))) × (from < r .at) × (r .at ≤ length (now (chunk .entry))) × Grown (s .used) (r .state .used) (now (out .entry)) (now (out .exit)) ⌝ }
-{
-    let a = dayfile::lines::eat(chunk, from, buf, s.cut);
-    let k = a.cut;
-    let stage = s.stage;
-    let t = State {
-        lines: s.lines,
-        stage,
-        used: s.used,
-        cut: k,
-    };
-    if a.is_done {
-        let e = line_on(buf, counts, accounts, counters, pays, out, t);
-        return Turn { at: a.at, state: e };
-    }
-    Turn { at: a.at, state: t }
 }
 
 // One line of the end, or the last line of the input, or the refusal of a night that is not over.

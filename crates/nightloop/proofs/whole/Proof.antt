@@ -2,7 +2,7 @@
 use Rattle.nightloop.proofs.Steps.{stood-first, step-left}
 use Rattle.nightloop.specs.declared.Next.the-variants as N
 use Rattle.nightloop.specs.Steps.{Memory, runOf, Stood}
-use Rattle.session.specs.declared.State.{State}
+use Rattle.desk.specs.declared.State.{State}
 use Rattle.tables.specs.Layout.{tables}
 use Prim.Native.Nat.{_<_}
 use mathlib.Core.Path.{_≡_, subst, sym}

@@ -1,5 +1,5 @@
 -- `nightloop::write_out` meets its contract: no loop.
-use Rattle.session.specs.declared.State.{State}
+use Rattle.desk.specs.declared.State.{State}
 use Rattle.nightloop.specs.declared.Next.{Next}
 use Rattle.nightloop.specs.declared.Next.the-variants.{Failed}
 use Rattle.nightloop.specs.declared.Run.{Run}

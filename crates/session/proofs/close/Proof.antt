@@ -1,7 +1,7 @@
 -- `session::close` meets its contract. The invariant: turns led here, and before each of them it went on.
 use Rattle.session.proofs.Desks.{fit-at, Going, going-first, going-next, closes-at}
 use Rattle.session.specs.Turns.{closeTurn, closesOn}
-use Rattle.session.specs.Feeding.{deskOf, turnsLeft}
+use Rattle.desk.specs.States.{deskOf, turnsLeft}
 use Rattle.tables.specs.Layout.{tables}
 use lib.ListN.{length}
 use mathlib.Core.List.{[]}

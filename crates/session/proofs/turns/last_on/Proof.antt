@@ -1,7 +1,7 @@
 -- `session::turns::last_on` meets its contract: no loop.
 use Rattle.session.proofs.Desks.{last-line, last-none, fewer-bytes, over-less}
-use Rattle.session.proofs.Steps.{stopped-at, fit-over}
-use Rattle.session.specs.declared.State.{State}
+use Rattle.desk.proofs.Steps.{stopped-at, fit-over}
+use Rattle.desk.specs.declared.State.{State}
 use Rattle.tables.specs.Layout.{Tables, tables}
 use lib.ListN.{length}
 use mathlib.Core.Path.{ap, _∙_}

@@ -1,9 +1,9 @@
 -- `session::turns::turn_on` meets its contract: no loop.
 use Rattle.session.proofs.Desks.{goes-room, goes-reads, end-turned, eat-turned, fewer-bytes}
-use Rattle.session.specs.Feeding.{deskOf}
+use Rattle.desk.specs.States.{deskOf}
 use Prim.Native.Nat.{_-_}
 use Rattle.tables.specs.Layout.{Tables, tables}
-use Rattle.session.specs.declared.Turn.{Turn}
+use Rattle.desk.specs.declared.Turn.{Turn}
 use lib.ListN.{length, drop}
 use mathlib.Core.Path.{sym, _∙_}
 use borrow.Author.Needs.{needs}

@@ -1,0 +1,4 @@
+pub mod Writing
+pub mod Steps
+pub mod Endings
+pub mod Eating
