@@ -6,11 +6,11 @@ use Rattle.rule.specs.Verdict.{empty, full, partial, deadlocked}
 use Rattle.answers.specs.declared.Verdict.{Verdict}
 use Rattle.answers.specs.declared.Verdict.the-variants.{Empty, Full, Partial, Deadlocked}
 
-abbrev pub numberOf : Verdict → ℕ
-numberOf Empty = empty
-numberOf Full = full
-numberOf Partial = partial
-numberOf Deadlocked = deadlocked
+abbrev pub verdictNumber : Verdict → ℕ
+verdictNumber Empty = empty
+verdictNumber Full = full
+verdictNumber Partial = partial
+verdictNumber Deadlocked = deadlocked
 
 -- the verdict of a number
 abbrev pub named : ℕ → Verdict

@@ -1,7 +1,7 @@
 // The answers of the calls and their codes, and the conditions that several calls judge.
 ghost use mathlib.Core.Path.{_≡_};
 ghost use Rattle.answers.specs.Codes.{codeOf};
-ghost use Rattle.answers.specs.Verdicts.{numberOf};
+ghost use Rattle.answers.specs.Verdicts.{verdictNumber};
 
 pub mod judge;
 
@@ -120,7 +120,7 @@ pub fn code(r: Refusal) -> u32
 
 // The paper's number of a verdict.
 pub fn number(v: Verdict) -> u64
-    ensures { λ n. ⌜ n ≡ numberOf v ⌝ }
+    ensures { λ n. ⌜ n ≡ verdictNumber v ⌝ }
 {
     match v {
         Verdict::Empty => 0,

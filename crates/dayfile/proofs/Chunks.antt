@@ -8,7 +8,7 @@ use lib.Dec.{ltb, eqb}
 use lib.ListN.{length, take, drop, length-append}
 use lib.Seq.{take-all, take-append-le, length-take-le}
 use borrow.Author.Tests.{ltb-true, ltb-false, lt-ltb, le-ltb}
-use Rattle.dayfile.specs.Chunks.{Held, none, pushed, lineOf, Eaten, more, eatOf, Fed, byteOf, feedOf, endBy, finish, runOf, feedAll, joined}
+use Rattle.dayfile.specs.Chunks.{Held, nothingHeld, pushed, heldLine, Eaten, more, eatOf, Fed, byteOf, feedOf, endBy, finish, runOf, feedAll, joined}
 use Rattle.dayfile.specs.Lines.{mostBytes, Line, text, long, judge, last, linesFrom, linesOf}
 
 -- the state that the bytes u of a line leave
@@ -22,7 +22,7 @@ by-ltb x y P f g = go (ltb x y) refl
     go true e = f (ltb-true x y e)
     go false e = g (ltb-false x y e)
 
-line-cut : (u : List ℕ) → lineOf (cutOf u) ≡ judge u
+line-cut : (u : List ℕ) → heldLine (cutOf u) ≡ judge u
 line-cut u = by-ltb mostBytes (length u) (λ p. cond p long (text (take mostBytes u)) ≡ cond p long (text u)) (λ h. refl) (λ h. ap text (take-all mostBytes u h))
 
 push-short : (b : ℕ) (u : List ℕ) → length u < mostBytes → pushed b (cutOf u) ≡ cutOf (u ++ (b ∷ []))
@@ -55,7 +55,7 @@ module _ {D : Type 0} (step : D → Line → D) where
   feed-all [] f = refl
   feed-all (a ∷ cs) f = feed-all cs (feedOf step a f) ∙ sym (feed-append a (joined cs) f)
 
-  end-cut : (u : List ℕ) (d : D) → endBy step (take mostBytes u) d (lineOf (cutOf u)) ≡ runOf step d (last u)
+  end-cut : (u : List ℕ) (d : D) → endBy step (take mostBytes u) d (heldLine (cutOf u)) ≡ runOf step d (last u)
   unfolding runOf
   end-cut [] d = refl
   end-cut (b ∷ u) d = ap (step d) (line-cut (b ∷ u))
@@ -63,7 +63,7 @@ module _ {D : Type 0} (step : D → Line → D) where
   -- byte by byte is line by line
   feed-by : (b : ℕ) (s u : List ℕ) (d : D) (p : Bool)
       → ((v : List ℕ) (e : D) → finish step (feedOf step s (record { day = e; held = cutOf v })) ≡ runOf step e (linesFrom v s))
-      → finish step (feedOf step s (cond p (record { day = step d (lineOf (cutOf u)); held = none }) (record { day = d; held = pushed b (cutOf u) })))
+      → finish step (feedOf step s (cond p (record { day = step d (heldLine (cutOf u)); held = nothingHeld }) (record { day = d; held = pushed b (cutOf u) })))
       ≡ runOf step d (cond p (judge u ∷ linesFrom [] s) (linesFrom (u ++ (b ∷ [])) s))
   unfolding runOf
   feed-by b s u d true ih = rw (line-cut u) (ih [] (step d (judge u)))
@@ -76,25 +76,25 @@ module _ {D : Type 0} (step : D → Line → D) where
   feed-lines (b ∷ s) u d = feed-by b s u d (eqb b 10) (λ v e. feed-lines s v e)
 
   -- the law: chunks of any size, one after the other, and the last line, come to the lines of the whole file
-  pub chunks : (cs : List (List ℕ)) (d : D) → finish step (feedAll step cs (record { day = d; held = none })) ≡ runOf step d (linesOf (joined cs))
-  chunks cs d = ap (finish step) (feed-all cs (record { day = d; held = none })) ∙ feed-lines (joined cs) [] d
+  pub chunks : (cs : List (List ℕ)) (d : D) → finish step (feedAll step cs (record { day = d; held = nothingHeld })) ≡ runOf step d (linesOf (joined cs))
+  chunks cs d = ap (finish step) (feed-all cs (record { day = d; held = nothingHeld })) ∙ feed-lines (joined cs) [] d
 
   -- what eating finds, fed
   eaten-by : (b : ℕ) (s : List ℕ) (h : Held) (d : D) (p : Bool)
       → ((k : Held) → feedOf step s (record { day = d; held = k }) ≡ cond (eatOf s k .done)
-      (feedOf step (drop (eatOf s k .used) s) (record { day = step d (lineOf (eatOf s k .held)); held = none }))
+      (feedOf step (drop (eatOf s k .used) s) (record { day = step d (heldLine (eatOf s k .held)); held = nothingHeld }))
       (record { day = d; held = eatOf s k .held }))
-      → feedOf step s (cond p (record { day = step d (lineOf h); held = none }) (record { day = d; held = pushed b h }))
+      → feedOf step s (cond p (record { day = step d (heldLine h); held = nothingHeld }) (record { day = d; held = pushed b h }))
       ≡ cond (cond p (record { done = true; used = 1; held = h }) (more (eatOf s (pushed b h))) .done)
       (feedOf step (drop (cond p (record { done = true; used = 1; held = h }) (more (eatOf s (pushed b h))) .used) (b ∷ s))
-      (record { day = step d (lineOf (cond p (record { done = true; used = 1; held = h }) (more (eatOf s (pushed b h))) .held)); held = none }))
+      (record { day = step d (heldLine (cond p (record { done = true; used = 1; held = h }) (more (eatOf s (pushed b h))) .held)); held = nothingHeld }))
       (record { day = d; held = cond p (record { done = true; used = 1; held = h }) (more (eatOf s (pushed b h))) .held })
   eaten-by b s h d true ih = refl
   eaten-by b s h d false ih = ih (pushed b h)
 
   -- a chunk is fed line by line, as eating finds them
   pub feed-eaten : (s : List ℕ) (h : Held) (d : D) → feedOf step s (record { day = d; held = h })
-      ≡ cond (eatOf s h .done) (feedOf step (drop (eatOf s h .used) s) (record { day = step d (lineOf (eatOf s h .held)); held = none }))
+      ≡ cond (eatOf s h .done) (feedOf step (drop (eatOf s h .used) s) (record { day = step d (heldLine (eatOf s h .held)); held = nothingHeld }))
       (record { day = d; held = eatOf s h .held })
   unfolding feedOf eatOf
   feed-eaten [] h d = refl
@@ -116,9 +116,9 @@ module _ {D : Type 0} (step : D → Line → D) (φ : D → D) (same : (d : D) (
   under f = record { day = φ (f .day); held = f .held }
 
   under-by : (b : ℕ) (f : Fed D) (p : Bool)
-      → _≡_ {A = Fed D} (cond p (record { day = step (φ (f .day)) (lineOf (f .held)); held = none }) (record { day = φ (f .day); held = pushed b (f .held) }))
-      (under (cond p (record { day = step (f .day) (lineOf (f .held)); held = none }) (record { day = f .day; held = pushed b (f .held) })))
-  under-by b f true = rw (same (f .day) (lineOf (f .held)))
+      → _≡_ {A = Fed D} (cond p (record { day = step (φ (f .day)) (heldLine (f .held)); held = nothingHeld }) (record { day = φ (f .day); held = pushed b (f .held) }))
+      (under (cond p (record { day = step (f .day) (heldLine (f .held)); held = nothingHeld }) (record { day = f .day; held = pushed b (f .held) })))
+  under-by b f true = rw (same (f .day) (heldLine (f .held)))
   under-by b f false = refl
 
   pub feed-under : (s : List ℕ) (f : Fed D) → feedOf step s (under f) ≡ under (feedOf step s f)

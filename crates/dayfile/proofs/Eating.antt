@@ -12,7 +12,7 @@ use lib.Seq.{drop-cons, take-suc-set, take-all, length-take-le, getD-take, getD-
 use borrow.Author.Tests.{eq-eqb, ne-eqb, lt-ltb, le-ltb}
 use Rattle.dayfile.specs.declared.lines.Cut.{Cut}
 use Rattle.dayfile.specs.declared.lines.Ate.{Ate}
-use Rattle.dayfile.specs.Chunks.{Held, none, Eaten, pushed, more, eatOf, stateOf, Ready, EndAt}
+use Rattle.dayfile.specs.Chunks.{Held, nothingHeld, Eaten, pushed, more, eatOf, stateOf, AteSo, EndAt}
 use Rattle.dayfile.specs.Lines.{mostBytes}
 
 pub eat-here : (s : List ℕ) (i : ℕ) (h : Held) → i < length s → getD s i 0 ≡ 10 → eatOf (drop i s) h ≡ record { done = true; used = 1; held = h }
@@ -57,7 +57,7 @@ push-full buf k b l h j e =
     rw (le-ltb (length (take k buf)) mostBytes m)
 
 pub ready-at : (r : Ate) (e₀ e : Eaten) (buf : List ℕ) (from i n : ℕ) → Going e₀ e from i
-    → e ≡ record { done = r .«is_done»; used = n; held = stateOf buf (r .cut) } → r .at ≡ i + n → Ready r e₀ buf from
+    → e ≡ record { done = r .«is_done»; used = n; held = stateOf buf (r .cut) } → r .at ≡ i + n → AteSo r e₀ buf from
 ready-at r e₀ e buf from i n g q p =
     record {
       done = sym (ap (λ (x : Eaten). x .done) q) ∙ g .done;
@@ -130,18 +130,18 @@ eat-line (b ∷ part) rest u f h =
 
 -- so a line is eaten up to its end
 eat-end : (r : List ℕ) (e : ℕ) → EndAt r e → e < length r → e ≤ mostBytes
-    → eatOf r none ≡ record { done = true; used = e + 1; held = record { bytes = take e r; over = false } }
+    → eatOf r nothingHeld ≡ record { done = true; used = e + 1; held = record { bytes = take e r; over = false } }
 eat-end r e g l h =
     let n : length (take e r) ≡ e = length-take-le e r (g .within) in
     let d : drop e r ≡ 10 ∷ drop (suc e) r = drop-cons r e 0 l ∙ ap (λ b. b ∷ drop (suc e) r) (g .ends l) in
     let p : r ≡ take e r ++ (10 ∷ drop (suc e) r) = sym (take-append-drop e r) ∙ ap (λ q. take e r ++ q) d in
-    ap (λ q. eatOf q none) p
+    ap (λ q. eatOf q nothingHeld) p
     ∙ eat-line (take e r) (drop (suc e) r) [] (λ j q. let k : j < e = omega arith in rw (getD-take e r j 0 k) (g .others j k)) (omega (arith, n))
     ∙ ap (λ k. record { done = true; used = k + 1; held = record { bytes = take e r; over = false } }) n
 
 -- from place from on, where the chunk's rest is looked at
 pub eat-whole : (s : List ℕ) (from : ℕ) {n : ℕ} → EndAt (take (length s - from) (drop from s)) n → from + n < length s → n ≤ mostBytes
-    → eatOf (drop from s) none ≡ record {
+    → eatOf (drop from s) nothingHeld ≡ record {
       done = true;
       used = from + n - from + 1;
       held = record {
@@ -156,5 +156,5 @@ eat-whole s from {n} g l h =
     rw m (eat-end (drop from s) n (rw e at g) (omega (arith, length-drop from s)) h)
 
 -- a cut with no line begun holds nothing
-pub nothing-held : (c : Cut) → c .held ≡ 0 → c .«is_long» ≡ false → (buf : List ℕ) → stateOf buf c ≡ none
+pub nothing-held : (c : Cut) → c .held ≡ 0 → c .«is_long» ≡ false → (buf : List ℕ) → stateOf buf c ≡ nothingHeld
 nothing-held c e f buf = rw (e, f)

@@ -28,10 +28,10 @@ use Rattle.dayfile.specs.declared.Entry.the-variants as E
 use Rattle.dayfile.specs.declared.Count.{Count}
 use Rattle.dayfile.specs.declared.Count.the-variants as C
 use Rattle.dayfile.specs.Fields.{fieldsOf, fieldsFrom, upTo, same}
-use Rattle.dayfile.specs.Entries.{mostCounts, edition, plain, memberWord, house, member, pay, deposit, release, group, resolve}
-use Rattle.dayfile.specs.Entries.{Entry, opening, day, end, bad, Numbers, good, short, also, addTo, numbersOf, valuesOf, countFrom, kindOf, onlyOf}
-use Rattle.dayfile.specs.Entries.{houseOf, groupOf, ofKind, ofNumbers, asMember, memberOf, ofFields, entryOf, AllSmall, smallEntry}
-use Rattle.dayfile.specs.Reading.{meant, countsIn, Tells, leftOf}
+use Rattle.dayfile.specs.Entries.{mostCounts, edition, plainKind, memberWord, house, member, pay, deposit, release, group, resolve}
+use Rattle.dayfile.specs.Entries.{Entry, opening, day, end, bad, FieldNumbers, good, short, also, addTo, numbersOf, valuesOf, countFrom, kindOf, onlyOf}
+use Rattle.dayfile.specs.Entries.{asHouse, groupOf, ofKind, ofNumbers, asMember, memberOf, ofFields, entryOf, AllSmall, smallEntry}
+use Rattle.dayfile.specs.Reading.{meant, countsLeft, Tells, leftOf}
 use Rattle.dayfile.proofs.Fields.{tab-within, fields-line, fields-step, fields-end}
 
 by-eqb : (m n : ℕ) (P : Bool → Type 0) → (m ≡ n → P true) → ((m ≡ n → ⊥) → P false) → P (eqb m n)
@@ -51,7 +51,7 @@ tells-bad vs = record { means = refl; few = omega arith }
 pub tells-any : {e : Answer} {l : Entry} (vs : List ℕ) → Tells e [] l → Tells e vs l
 tells-any {e} {l} vs t = go e (t .means) (t .few)
   where
-    go : (e : Answer) → meant e [] ≡ l → countsIn e ≤ 0 → Tells e vs l
+    go : (e : Answer) → meant e [] ≡ l → countsLeft e ≤ 0 → Tells e vs l
     go (E.Opening o) q h = record { means = q; few = omega arith }
     go (E.Day (D.Pay k a b c d)) q h = record { means = q; few = omega arith }
     go (E.Day (D.Deposit a b)) q h = record { means = q; few = omega arith }
@@ -82,7 +82,7 @@ tells-one {e} {f} {l} {vs} s t = sym (brief-meant e (s .few)) ∙ ap brief (s .m
     brief end = E.End
     brief bad = E.Bad
 
-    brief-meant : (e : Answer) → countsIn e ≤ length vs → brief (meant e vs) ≡ e
+    brief-meant : (e : Answer) → countsLeft e ≤ length vs → brief (meant e vs) ≡ e
     brief-meant (E.Opening (O.House n)) h = refl
     brief-meant (E.Opening (O.Member n b k)) h = refl
     brief-meant (E.Day (D.Pay k a b c d)) h = refl
@@ -99,13 +99,13 @@ module _ (v : List ℕ) (m : ℕ) (h : m ≤ length v) where
   at : (j : ℕ) → j < m → getD (take m v) j 0 ≡ getD v j 0
   at j k = getD-take m v j 0 k
 
-  house-at : m ≡ 2 → Tells (cond (eqb (getD v 0 0) edition) (E.Opening (O.House (getD v 1 0))) E.Bad) v (houseOf (getD (take m v) 0 0) (getD (take m v) 1 0))
+  house-at : m ≡ 2 → Tells (cond (eqb (getD v 0 0) edition) (E.Opening (O.House (getD v 1 0))) E.Bad) v (asHouse (getD (take m v) 0 0) (getD (take m v) 1 0))
   house-at n = rw (at 0 (omega arith), at 1 (omega arith)) (tells-only v (getD v 0 0) edition (λ q. record { means = refl; few = omega arith }))
 
   pub kind-house : Tells (cond (eqb m 2) (cond (eqb (getD v 0 0) edition) (E.Opening (O.House (getD v 1 0))) E.Bad) E.Bad) v (ofKind K.House (take m v))
   kind-house = rw (length-take-le m v h) (tells-only v m 2 house-at)
 
-  pub kind-pay : Tells (cond (eqb m 4) (E.Day (D.Pay plain (getD v 0 0) (getD v 1 0) (getD v 2 0) (getD v 3 0))) E.Bad) v (ofKind K.Pay (take m v))
+  pub kind-pay : Tells (cond (eqb m 4) (E.Day (D.Pay plainKind (getD v 0 0) (getD v 1 0) (getD v 2 0) (getD v 3 0))) E.Bad) v (ofKind K.Pay (take m v))
   kind-pay =
       rw (length-take-le m v h)
       (tells-only v m 4 (λ n. rw (at 0 (omega arith), at 1 (omega arith), at 2 (omega arith), at 3 (omega arith)) (record { means = refl; few = omega arith })))
@@ -128,11 +128,11 @@ module _ (v : List ℕ) (m : ℕ) (h : m ≤ length v) where
   pub kind-end : Tells (cond (eqb m 0) E.End E.Bad) v (ofKind K.End (take m v))
   kind-end = rw (length-take-le m v h) (tells-only v m 0 (λ n. record { means = refl; few = omega arith }))
 
-also-le : (x r : ℕ) (ns : Numbers) → length (valuesOf ns) ≤ r → length (valuesOf (also x ns)) ≤ suc r
+also-le : (x r : ℕ) (ns : FieldNumbers) → length (valuesOf ns) ≤ r → length (valuesOf (also x ns)) ≤ suc r
 also-le x r (good vs) h = omega arith
 also-le x r (short vs) h = omega arith
 
-add-le : (n : Number) (r : ℕ) (ns : Numbers) → length (valuesOf ns) ≤ r → length (valuesOf (addTo n ns)) ≤ suc r
+add-le : (n : Number) (r : ℕ) (ns : FieldNumbers) → length (valuesOf ns) ≤ r → length (valuesOf (addTo n ns)) ≤ suc r
 add-le (Value x) r ns h = also-le x r ns h
 add-le Bad r ns h = omega arith
 
@@ -145,7 +145,7 @@ values-le (suc r) (f ∷ fs) = add-le (numberOf f) r (numbersOf r fs) (values-le
 
 -- ---- what the count of the numbers tells
 
-pub count-wrong : (k : Kind) (ns : Numbers) (n : Count) (vs : List ℕ) → n ≡ countFrom 0 ns → n ≡ C.Wrong → Tells E.Bad vs (ofNumbers k ns)
+pub count-wrong : (k : Kind) (ns : FieldNumbers) (n : Count) (vs : List ℕ) → n ≡ countFrom 0 ns → n ≡ C.Wrong → Tells E.Bad vs (ofNumbers k ns)
 count-wrong k (good ws) n vs a b = let z : _≡_ {A = ℕ} 0 1 = cc in absurd (omega arith)
 count-wrong k (short ws) n vs a b = tells-bad vs
 
@@ -156,7 +156,7 @@ good-count m n e = cc
 numbers-put : (v vs : List ℕ) → length vs ≤ length v → take (length vs) (sets v 0 vs) ≡ vs
 numbers-put v vs h = let e : 0 + length vs ≤ length v = omega arith in rw (sets-eq vs v 0 e) (take-at vs (drop (0 + length vs) v) (length vs) refl)
 
-count-by : (k : Kind) (ns : Numbers) (m : ℕ) (v w : List ℕ) → countFrom 0 ns ≡ C.Good m → length (valuesOf ns) ≤ length v → w ≡ sets v 0 (valuesOf ns)
+count-by : (k : Kind) (ns : FieldNumbers) (m : ℕ) (v w : List ℕ) → countFrom 0 ns ≡ C.Good m → length (valuesOf ns) ≤ length v → w ≡ sets v 0 (valuesOf ns)
     → (m ≡ length (valuesOf ns)) × (ofKind k (take m w) ≡ ofNumbers k ns)
 count-by k (good vs) m v w e h q =
     let z : m ≡ length vs = omega (arith, good-count (0 + length vs) m e) in
@@ -230,7 +230,7 @@ pub member-read : (x : Number) (y : Signed) (z : Number) (n : ℕ) (b : ℤ) (l 
 member-read x y z n b l h p q r = rw (p, q, r, toZ-ofZ {w = w64} h) (record { means = refl; few = omega arith })
 
 -- the numbers of a line have at most 18 digits
-add-small : (n : Number) (ns : Numbers) → smallOf n → AllSmall (valuesOf ns) → AllSmall (valuesOf (addTo n ns))
+add-small : (n : Number) (ns : FieldNumbers) → smallOf n → AllSmall (valuesOf ns) → AllSmall (valuesOf (addTo n ns))
 add-small (Value x) (good vs) h s = (h, s)
 add-small (Value x) (short vs) h s = (h, s)
 add-small Bad ns h s = tt
@@ -251,16 +251,16 @@ only-small : (e : Entry) (m k : ℕ) → smallEntry e → smallEntry (onlyOf e m
 only-small e m k h = by-eqb m k (λ p. smallEntry (cond p e bad)) (λ q. h) (λ q. tt)
 
 module _ (vs : List ℕ) (l : length vs ≤ mostCounts) (s : AllSmall vs) where
-  house-small : smallEntry (houseOf (getD vs 0 0) (getD vs 1 0))
+  house-small : smallEntry (asHouse (getD vs 0 0) (getD vs 1 0))
   house-small = by-eqb (getD vs 0 0) edition (λ p. smallEntry (cond p (opening (house (getD vs 1 0))) bad)) (λ q. at-small vs 1 s) (λ q. tt)
 
   group-small : smallEntry (groupOf vs)
   group-small = by-eqb (length vs) 0 (λ p. smallEntry (cond p bad (day (group vs)))) (λ q. tt) (λ q. (s, omega arith, l))
 
   kind-small : (k : Kind) → smallEntry (ofKind k vs)
-  kind-small K.House = only-small (houseOf (getD vs 0 0) (getD vs 1 0)) (length vs) 2 house-small
+  kind-small K.House = only-small (asHouse (getD vs 0 0) (getD vs 1 0)) (length vs) 2 house-small
   kind-small K.Pay =
-      only-small (day (pay plain (getD vs 0 0) (getD vs 1 0) (getD vs 2 0) (getD vs 3 0))) (length vs) 4
+      only-small (day (pay plainKind (getD vs 0 0) (getD vs 1 0) (getD vs 2 0) (getD vs 3 0))) (length vs) 4
       (refl, at-small vs 0 s, at-small vs 1 s, at-small vs 2 s, at-small vs 3 s)
   kind-small K.Deposit = only-small (day (deposit (getD vs 0 0) (getD vs 1 0))) (length vs) 2 (at-small vs 0 s, at-small vs 1 s)
   kind-small K.Release = only-small (day (release (getD vs 0 0))) (length vs) 1 (at-small vs 0 s)
@@ -269,7 +269,7 @@ module _ (vs : List ℕ) (l : length vs ≤ mostCounts) (s : AllSmall vs) where
   kind-small K.End = only-small end (length vs) 0 tt
   kind-small K.Other = tt
 
-numbers-entry : (k : Kind) (ns : Numbers) → length (valuesOf ns) ≤ mostCounts → AllSmall (valuesOf ns) → smallEntry (ofNumbers k ns)
+numbers-entry : (k : Kind) (ns : FieldNumbers) → length (valuesOf ns) ≤ mostCounts → AllSmall (valuesOf ns) → smallEntry (ofNumbers k ns)
 numbers-entry k (good vs) l s = kind-small vs l s k
 numbers-entry k (short vs) l s = tt
 
@@ -293,7 +293,7 @@ either-small false d e x y = y
 fields-small : (fs : List (List ℕ)) → smallEntry (ofFields fs)
 fields-small [] = tt
 fields-small (w ∷ fs) =
-    let ns : Numbers = numbersOf mostCounts fs in
+    let ns : FieldNumbers = numbersOf mostCounts fs in
     either-small (same w memberWord) (memberOf fs) (ofNumbers (kindOf w) ns) (member-small fs)
     (numbers-entry (kindOf w) ns (values-le mostCounts fs) (numbers-small mostCounts fs))
 

@@ -4,7 +4,7 @@ use mathlib.Core.List.{[], _∷_}
 use lib.IntN.{negsuc}
 use Rattle.numbers.specs.Numbers.{digitsFrom}
 use Rattle.dayfile.specs.Fields.{fieldsOf, same}
-use Rattle.dayfile.specs.Entries.{plain, house, member, pay, deposit, release, group, resolve, opening, day, end, bad, numbersOf, entryOf}
+use Rattle.dayfile.specs.Entries.{plainKind, house, member, pay, deposit, release, group, resolve, opening, day, end, bad, numbersOf, entryOf}
 
 -- `house 1 2`
 house-line : entryOf (104 ∷ 111 ∷ 117 ∷ 115 ∷ 101 ∷ 9 ∷ 49 ∷ 9 ∷ 50 ∷ []) ≡ opening (house 2)
@@ -37,7 +37,7 @@ unfolding fieldsOf same numbersOf digitsFrom
 member-field-missing = refl
 
 -- `pay 1 1 2 30`
-pay-line : entryOf (112 ∷ 97 ∷ 121 ∷ 9 ∷ 49 ∷ 9 ∷ 49 ∷ 9 ∷ 50 ∷ 9 ∷ 51 ∷ 48 ∷ []) ≡ day (pay plain 1 1 2 30)
+pay-line : entryOf (112 ∷ 97 ∷ 121 ∷ 9 ∷ 49 ∷ 9 ∷ 49 ∷ 9 ∷ 50 ∷ 9 ∷ 51 ∷ 48 ∷ []) ≡ day (pay plainKind 1 1 2 30)
 unfolding fieldsOf same numbersOf digitsFrom
 pay-line = refl
 

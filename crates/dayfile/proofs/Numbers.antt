@@ -9,7 +9,7 @@ use lib.Seq.{sets}
 use Rattle.numbers.specs.Numbers.{numberOf}
 use Rattle.numbers.specs.declared.Number.{Number}
 use Rattle.dayfile.specs.Fields.{fieldsFrom, upTo}
-use Rattle.dayfile.specs.Entries.{mostCounts, Numbers, good, short, also, addTo, numbersOf, valuesOf, countFrom}
+use Rattle.dayfile.specs.Entries.{mostCounts, FieldNumbers, good, short, also, addTo, numbersOf, valuesOf, countFrom}
 use Rattle.dayfile.proofs.Fields.{tab-within, fields-step, fields-end}
 
 none-left : (k : ℕ) → numbersOf k [] ≡ good []
@@ -25,16 +25,16 @@ next-field : (f : List ℕ) (fs : List (List ℕ)) (k j : ℕ) (m : Number) → 
 unfolding numbersOf
 next-field f fs k j m h e = rw h (ap (λ (x : Number). addTo x (numbersOf j fs)) e)
 
-also-count : (n x : ℕ) (ns : Numbers) → countFrom (n + 1) ns ≡ countFrom n (also x ns)
+also-count : (n x : ℕ) (ns : FieldNumbers) → countFrom (n + 1) ns ≡ countFrom n (also x ns)
 also-count n x (good vs) = let e : n + 1 + length vs ≡ n + suc (length vs) = omega arith in rw e
 also-count n x (short vs) = refl
 
-also-values : (l : List ℕ) (n x : ℕ) (ns : Numbers) → sets (set l n x) (n + 1) (valuesOf ns) ≡ sets l n (valuesOf (also x ns))
+also-values : (l : List ℕ) (n x : ℕ) (ns : FieldNumbers) → sets (set l n x) (n + 1) (valuesOf ns) ≡ sets l n (valuesOf (also x ns))
 also-values l n x (good vs) = rw add-one
 also-values l n x (short vs) = rw add-one
 
 -- what is read of s from at on, where n numbers were read before
-abbrev pub left : List ℕ → ℕ → ℕ → Numbers
+abbrev pub left : List ℕ → ℕ → ℕ → FieldNumbers
 left s at n = numbersOf (mostCounts - n) (fieldsFrom at s)
 
 pub step-full : (s : List ℕ) (at n : ℕ) → at ≤ length s → mostCounts ≤ n → left s at n ≡ short []
@@ -52,15 +52,15 @@ step-field s at e n m h q l k b =
     ∙ next-field (take (e - at) (drop at s)) (fieldsFrom (e + 1) s) (mostCounts - n) (mostCounts - (n + 1)) m (omega arith) (sym b)
 
 -- what has been read so far, with what is left, is the whole
-pub record Turned (s : List ℕ) (ns : Numbers) (v₀ v : List ℕ) (at n : ℕ) : Type 0 where
+pub record Turned (s : List ℕ) (ns : FieldNumbers) (v₀ v : List ℕ) (at n : ℕ) : Type 0 where
   pub few : n ≤ mostCounts
   pub long : length v ≡ mostCounts
   pub counted : countFrom n (left s at n) ≡ countFrom 0 ns
   pub stored : sets v n (valuesOf (left s at n)) ≡ sets v₀ 0 (valuesOf ns)
 
-module _ (s : List ℕ) (ns : Numbers) (v₀ v : List ℕ) (at n : ℕ) (t : Turned s ns v₀ v at n) where
-  pub turn-stop : (ms : Numbers) → left s at n ≡ ms → (countFrom n ms ≡ countFrom 0 ns) × (sets v n (valuesOf ms) ≡ sets v₀ 0 (valuesOf ns))
-  turn-stop ms e = (ap (countFrom n) (sym e) ∙ t .counted, ap (λ (m : Numbers). sets v n (valuesOf m)) (sym e) ∙ t .stored)
+module _ (s : List ℕ) (ns : FieldNumbers) (v₀ v : List ℕ) (at n : ℕ) (t : Turned s ns v₀ v at n) where
+  pub turn-stop : (ms : FieldNumbers) → left s at n ≡ ms → (countFrom n ms ≡ countFrom 0 ns) × (sets v n (valuesOf ms) ≡ sets v₀ 0 (valuesOf ns))
+  turn-stop ms e = (ap (countFrom n) (sym e) ∙ t .counted, ap (λ (m : FieldNumbers). sets v n (valuesOf m)) (sym e) ∙ t .stored)
 
   pub turn-on : (e x : ℕ) → n < mostCounts → left s at n ≡ also x (left s (e + 1) (n + 1)) → Turned s ns v₀ (set v n x) (e + 1) (n + 1)
   turn-on e x h q =

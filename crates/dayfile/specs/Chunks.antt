@@ -16,16 +16,16 @@ pub record Held : Type 0 where
   pub over : Bool
 
 -- nothing of a line
-abbrev pub none : Held
-none = record { bytes = []; over = false }
+abbrev pub nothingHeld : Held
+nothingHeld = record { bytes = []; over = false }
 
 -- one byte more of the line
 abbrev pub pushed : ℕ → Held → Held
 pushed b h = cond (ltb (length (h .bytes)) mostBytes) (record { bytes = h .bytes ++ (b ∷ []); over = h .over }) (record { bytes = h .bytes; over = true })
 
 -- the line that ends here
-abbrev pub lineOf : Held → Line
-lineOf h = cond (h .over) long (text (h .bytes))
+abbrev pub heldLine : Held → Line
+heldLine h = cond (h .over) long (text (h .bytes))
 
 -- what eating finds: whether a line is ended, how many bytes were used, and what is held of the line
 pub record Eaten : Type 0 where
@@ -47,14 +47,14 @@ abbrev pub stateOf : List ℕ → Cut → Held
 stateOf buf c = record { bytes = take (c .held) buf; over = c .«is_long» }
 
 -- the answer r tells what eating found from place from on, with the buffer as it is after
-pub record Ready (r : Ate) (e : Eaten) (buf : List ℕ) (from : ℕ) : Type 0 where
+pub record AteSo (r : Ate) (e : Eaten) (buf : List ℕ) (from : ℕ) : Type 0 where
   pub done : r .«is_done» ≡ e .done
   pub place : r .at ≡ from + e .used
   pub held : stateOf buf (r .cut) ≡ e .held
 
 -- so many bytes are looked at a turn
-abbrev pub block : ℕ
-block = 16
+abbrev pub stride : ℕ
+stride = 16
 
 -- e is the place of the first byte 10, or the length where there is none
 pub record EndAt (s : List ℕ) (e : ℕ) : Type 0 where
@@ -66,8 +66,8 @@ pub record EndAt (s : List ℕ) (e : ℕ) : Type 0 where
 pub record WholeAt (s : List ℕ) (from : ℕ) (c : Cut) (e : ℕ) : Type 0 where
   pub start : from ≤ e
   pub short : e ≤ from + mostBytes
-  pub none-held : (buf : List ℕ) → stateOf buf c ≡ none
-  pub eaten : eatOf (drop from s) none ≡ record { done = true; used = e - from + 1; held = record { bytes = take (e - from) (drop from s); over = false } }
+  pub none-held : (buf : List ℕ) → stateOf buf c ≡ nothingHeld
+  pub eaten : eatOf (drop from s) nothingHeld ≡ record { done = true; used = e - from + 1; held = record { bytes = take (e - from) (drop from s); over = false } }
 
 -- a day D so far, and what is held of the next line
 pub record Fed (D : Type 0) : Type 0 where
@@ -78,7 +78,7 @@ pub record Fed (D : Type 0) : Type 0 where
 module _ {D : Type 0} (step : D → Line → D) where
   -- one byte
   abbrev pub byteOf : ℕ → Fed D → Fed D
-  byteOf b f = cond (eqb b 10) (record { day = step (f .day) (lineOf (f .held)); held = none }) (record { day = f .day; held = pushed b (f .held) })
+  byteOf b f = cond (eqb b 10) (record { day = step (f .day) (heldLine (f .held)); held = nothingHeld }) (record { day = f .day; held = pushed b (f .held) })
 
   -- the bytes of one chunk
   unfoldable pub feedOf : List ℕ → Fed D → Fed D
@@ -92,7 +92,7 @@ module _ {D : Type 0} (step : D → Line → D) where
 
   -- the last line, if no byte 10 ended it
   abbrev pub finish : Fed D → D
-  finish f = endBy (f .held .bytes) (f .day) (lineOf (f .held))
+  finish f = endBy (f .held .bytes) (f .day) (heldLine (f .held))
 
   -- lines, one after the other
   unfoldable pub runOf : D → List Line → D

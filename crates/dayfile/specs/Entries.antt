@@ -32,8 +32,8 @@ abbrev pub edition : ℕ
 edition = 1
 
 -- the kind of a payment by `pay`
-abbrev pub plain : ℕ
-plain = 0
+abbrev pub plainKind : ℕ
+plainKind = 0
 
 -- ---- entries
 
@@ -105,34 +105,34 @@ kindOf w =
     (cond (same w resolveWord) K.Resolve (cond (same w endWord) K.End K.Other))))))
 
 -- the numbers in some fields: all of them, or those before the first field that is none or is one too many
-pub data Numbers : Type 0 where
-  good : List ℕ → Numbers
-  short : List ℕ → Numbers
+pub data FieldNumbers : Type 0 where
+  good : List ℕ → FieldNumbers
+  short : List ℕ → FieldNumbers
 
 -- x before the others
-abbrev pub also : ℕ → Numbers → Numbers
+abbrev pub also : ℕ → FieldNumbers → FieldNumbers
 also x (good vs) = good (x ∷ vs)
 also x (short vs) = short (x ∷ vs)
 
 -- a field before the others
-abbrev pub addTo : Number → Numbers → Numbers
+abbrev pub addTo : Number → FieldNumbers → FieldNumbers
 addTo (Value x) ns = also x ns
 addTo Bad ns = short []
 
 -- the numbers in some fields, of which there may be room
-unfoldable pub numbersOf : ℕ → List (List ℕ) → Numbers
+unfoldable pub numbersOf : ℕ → List (List ℕ) → FieldNumbers
 numbersOf zero [] = good []
 numbersOf zero (f ∷ fs) = short []
 numbersOf (suc room) [] = good []
 numbersOf (suc room) (f ∷ fs) = addTo (numberOf f) (numbersOf room fs)
 
 -- those that were read
-abbrev pub valuesOf : Numbers → List ℕ
+abbrev pub valuesOf : FieldNumbers → List ℕ
 valuesOf (good vs) = vs
 valuesOf (short vs) = vs
 
 -- how many there are, behind n others
-abbrev pub countFrom : ℕ → Numbers → Count
+abbrev pub countFrom : ℕ → FieldNumbers → Count
 countFrom n (good vs) = C.Good (n + length vs)
 countFrom n (short vs) = C.Wrong
 
@@ -141,8 +141,8 @@ abbrev pub onlyOf : Entry → ℕ → ℕ → Entry
 onlyOf e m k = cond (eqb m k) e bad
 
 -- `house` edition, count
-abbrev pub houseOf : ℕ → ℕ → Entry
-houseOf e n = cond (eqb e edition) (opening (house n)) bad
+abbrev pub asHouse : ℕ → ℕ → Entry
+asHouse e n = cond (eqb e edition) (opening (house n)) bad
 
 -- `group` with its counts, of which there is one at least
 abbrev pub groupOf : List ℕ → Entry
@@ -150,8 +150,8 @@ groupOf vs = cond (eqb (length vs) 0) bad (day (group vs))
 
 -- a line of some kind with its numbers
 abbrev pub ofKind : Kind → List ℕ → Entry
-ofKind K.House vs = onlyOf (houseOf (getD vs 0 0) (getD vs 1 0)) (length vs) 2
-ofKind K.Pay vs = onlyOf (day (pay plain (getD vs 0 0) (getD vs 1 0) (getD vs 2 0) (getD vs 3 0))) (length vs) 4
+ofKind K.House vs = onlyOf (asHouse (getD vs 0 0) (getD vs 1 0)) (length vs) 2
+ofKind K.Pay vs = onlyOf (day (pay plainKind (getD vs 0 0) (getD vs 1 0) (getD vs 2 0) (getD vs 3 0))) (length vs) 4
 ofKind K.Deposit vs = onlyOf (day (deposit (getD vs 0 0) (getD vs 1 0))) (length vs) 2
 ofKind K.Release vs = onlyOf (day (release (getD vs 0 0))) (length vs) 1
 ofKind K.Group vs = groupOf vs
@@ -160,7 +160,7 @@ ofKind K.End vs = onlyOf end (length vs) 0
 ofKind K.Other vs = bad
 
 -- a line of some kind, bad where a field is no number or is one too many
-abbrev pub ofNumbers : Kind → Numbers → Entry
+abbrev pub ofNumbers : Kind → FieldNumbers → Entry
 ofNumbers k (good vs) = ofKind k vs
 ofNumbers k (short vs) = bad
 
@@ -206,7 +206,7 @@ smallOpening (member n b l) = (n < 10 ^ mostDigits) × (natAbs b < 10 ^ mostDigi
 
 -- so has each of a line of the day, and a group has 1 to 64 counts;
 abbrev pub smallDay : DayLine → Type 0
-smallDay (pay k a b c d) = (k ≡ plain) × (a < 10 ^ mostDigits) × (b < 10 ^ mostDigits) × (c < 10 ^ mostDigits) × (d < 10 ^ mostDigits)
+smallDay (pay k a b c d) = (k ≡ plainKind) × (a < 10 ^ mostDigits) × (b < 10 ^ mostDigits) × (c < 10 ^ mostDigits) × (d < 10 ^ mostDigits)
 smallDay (deposit a b) = (a < 10 ^ mostDigits) × (b < 10 ^ mostDigits)
 smallDay (release a) = a < 10 ^ mostDigits
 smallDay (group vs) = AllSmall vs × (1 ≤ length vs) × (length vs ≤ mostCounts)

@@ -42,16 +42,16 @@ dayCounts (D.Release a) = 0
 dayCounts (D.Group n) = n
 dayCounts D.Resolve = 0
 
-abbrev pub countsIn : Entry → ℕ
-countsIn (E.Opening o) = 0
-countsIn (E.Day d) = dayCounts d
-countsIn E.End = 0
-countsIn E.Bad = 0
+abbrev pub countsLeft : Entry → ℕ
+countsLeft (E.Opening o) = 0
+countsLeft (E.Day d) = dayCounts d
+countsLeft E.End = 0
+countsLeft E.Bad = 0
 
 -- the answer e, with the lent list beside it, tells the entry l
 pub record Tells (e : Entry) (vs : List ℕ) (l : entries.Entry) : Type 0 where
   pub means : meant e vs ≡ l
-  pub few : countsIn e ≤ length vs
+  pub few : countsLeft e ≤ length vs
 
 -- the numbers that a line leaves in the lent list: none for a member, and else those before the first field that is none
 abbrev pub leftBy : List (List ℕ) → List ℕ
@@ -64,4 +64,4 @@ leftOf s = leftBy (fieldsOf s)
 -- e, with the list beside it, is what some line said
 pub record Read (e : Entry) (vs : List ℕ) : Type 0 where
   pub small : smallEntry (meant e vs)
-  pub few : countsIn e ≤ length vs
+  pub few : countsLeft e ≤ length vs

@@ -3,7 +3,7 @@ ghost use mathlib.Core.Path.{_≡_};
 ghost use Prim.Native.Nat.{_+_, _≤_, _<_};
 ghost use lib.ListN.{length, drop};
 ghost use Rattle.dayfile.specs.Lines.{mostBytes};
-ghost use Rattle.dayfile.specs.Chunks.{pushed, eatOf, stateOf, Ready, EndAt, WholeAt};
+ghost use Rattle.dayfile.specs.Chunks.{pushed, eatOf, stateOf, AteSo, EndAt, WholeAt};
 
 // The most bytes of a line, before the byte 10.
 pub const MOST_BYTES: usize = 400;
@@ -75,7 +75,7 @@ fn end_in(s: &[u8]) -> usize
 // Eats the chunk from from on, up to and with the end of a line, or all of it.
 pub fn eat(chunk: &[u8], from: usize, buf: &mut [u8], c: Cut) -> Ate
     requires { ⌜ (length (now buf) ≡ mostBytes) × (c .held ≤ mostBytes) × (from ≤ length (now chunk)) ⌝ }
-    ensures { λ r. ⌜ Ready r (eatOf (drop from (now (chunk .entry))) (stateOf (now (buf .entry)) c)) (now (buf .exit)) from ⌝ }
+    ensures { λ r. ⌜ AteSo r (eatOf (drop from (now (chunk .entry))) (stateOf (now (buf .entry)) c)) (now (buf .exit)) from ⌝ }
     ensures { λ r. ⌜ (r .at ≤ length (now (chunk .entry))) × (r .cut .held ≤ mostBytes) ⌝ }
 {
     let mut t = c;

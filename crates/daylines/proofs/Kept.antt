@@ -34,7 +34,7 @@ use Rattle.resolving.proofs.Resolves.{largest-books}
 use Rattle.dayfile.specs.Entries.{DayLine, pay, deposit, release, group, resolve}
 use Rattle.sheet.specs.declared.Says.{Says}
 use Rattle.sheet.specs.Room.{Ranges}
-use Rattle.daylines.specs.Calls.{refusal, lineOf, paySays, payDoes, depositSays, depositDoes, releaseSays, releaseDoes, groupSays, groupDoes, resolveDoes}
+use Rattle.daylines.specs.Calls.{refusal, saying, paySays, payDoes, depositSays, depositDoes, releaseSays, releaseDoes, groupSays, groupDoes, resolveDoes}
 use Rattle.daylines.specs.Calls.{callDoes}
 use Rattle.daylines.proofs.Amounts.{queued-small, counts-few, sum-small, Heads, release-heads, verdict-small, size-small, lowest-small}
 
@@ -86,12 +86,12 @@ pub record Kept (u : Outcome Says) : Type 0 where
 module _ (n : ℕ) (few : n < 10 ^ 7) (t : Tables) (h : Holds t) (narrow : (i : ℕ) → getD (t .counters) i 0 ≤ lastNumber) where
   -- a call's line, where it is kept if the request is fine
   act-kept : {A : Type 0} (k : Act A) (say : A → Says) → ((r : Refusal) → say (k .refuse r) ≡ refusal n r)
-      → (first (k .tests t) ≡ Fine → Kept (lineOf say (k .does t)))
-      → Kept (lineOf say (held k t))
+      → (first (k .tests t) ≡ Fine → Kept (saying say (k .does t)))
+      → Kept (saying say (held k t))
   unfolding held
   act-kept k say told f = go (first (k .tests t)) refl
     where
-      go : (j : Judged) → first (k .tests t) ≡ j → Kept (lineOf say (decided k t j))
+      go : (j : Judged) → first (k .tests t) ≡ j → Kept (saying say (decided k t j))
       go Fine e = f e
       go (Bad r) e = record { holds = h; ranges = rw (told r) (few, code-small r) }
 

@@ -26,33 +26,33 @@ use Rattle.settling.proofs.Settles.{group-bad}
 use Rattle.resolving.specs.Resolve.{largestIn, told, resolveAct}
 use Rattle.resolving.proofs.Resolves.{resolve-waiting}
 use Rattle.answers.specs.Outcome.{Outcome, outcome, held}
-use Rattle.answers.specs.Verdicts.{numberOf, named}
+use Rattle.answers.specs.Verdicts.{verdictNumber, named}
 use Rattle.answers.specs.declared.Refusal.{Refusal}
 use Rattle.answers.specs.declared.Resolution.{Resolution}
 use Rattle.answers.specs.declared.Resolved.{Resolved}
 use Rattle.answers.specs.declared.Resolved.the-variants.{Done, Refused}
 use Rattle.answers.proofs.Outcomes.{held-fine, held-bad}
-use Rattle.daylines.specs.Calls.{mostCount, least, resolutionSays, resolveDoes}
+use Rattle.daylines.specs.Calls.{mostCount, capped, resolutionSays, resolveDoes}
 
 -- ---- counts in 16 bits
 
-pub least-turn : (counts k : List ℕ) (i x : ℕ) → i < length k → x ≡ least (getD counts i 0) → ((j : ℕ) → j < i → getD k j 0 ≡ least (getD counts j 0))
-    → (j : ℕ) → j < i + 1 → getD (set k i x) j 0 ≡ least (getD counts j 0)
+pub least-turn : (counts k : List ℕ) (i x : ℕ) → i < length k → x ≡ capped (getD counts i 0) → ((j : ℕ) → j < i → getD k j 0 ≡ capped (getD counts j 0))
+    → (j : ℕ) → j < i + 1 → getD (set k i x) j 0 ≡ capped (getD counts j 0)
 least-turn counts k i x l e f j q = elim (decLt j i) [
   | yes h ↦ getD-set-other k i j x 0 (λ z. omega arith) ∙ f j h
   | no h ↦ let z : j ≡ i = omega arith in rw z (getD-set-same k i x 0 l ∙ e)
 ]
 
-least-few : (x w : ℕ) → w ≤ places → least x ≤ w → x ≡ least x
+least-few : (x w : ℕ) → w ≤ places → capped x ≤ w → x ≡ capped x
 least-few x w f h = elim (decLt x mostCount) [
   | yes q ↦ sym (ap (λ b. cond b x mostCount) (lt-ltb x mostCount q))
   | no q ↦ let e = ap (λ b. cond b x mostCount) (le-ltb x mostCount (omega arith)) in absurd (omega arith)
 ]
 
-least-same : (x w : ℕ) → w ≤ places → x ≤ w → x ≡ least x
+least-same : (x w : ℕ) → w ≤ places → x ≤ w → x ≡ capped x
 least-same x w f h = sym (ap (λ b. cond b x mostCount) (lt-ltb x mostCount (omega arith)))
 
-module _ (t : Tables) (h : Holds t) (k w : List ℕ) (same : length w ≡ length k) (are : (i : ℕ) → i < length k → getD w i 0 ≡ least (getD k i 0)) where
+module _ (t : Tables) (h : Holds t) (k w : List ℕ) (same : length w ≡ length k) (are : (i : ℕ) → i < length k → getD w i 0 ≡ capped (getD k i 0)) where
   counts-in : (l : List ℕ) → isCounts (membersIn t) (houseIn t) l ≡ true
       → (length l ≡ membersIn t) × ((i : ℕ) → i < membersIn t → getD l i 0 ≤ waits (houseIn t) i)
   counts-in l e =
@@ -91,24 +91,24 @@ module _ (t : Tables) (h : Holds t) (k w : List ℕ) (same : length w ≡ length
 
 -- as the code hands them on: the first m of each
 pub group-narrowed : (t : Tables) → Holds t → (m : ℕ) (counts r : List ℕ) → m ≤ members → m ≤ length counts → length r ≡ members
-    → ((i : ℕ) → i < m → getD r i 0 ≡ least (getD counts i 0)) → held (groupAct (take m r)) t ≡ held (groupAct (take m counts)) t
+    → ((i : ℕ) → i < m → getD r i 0 ≡ capped (getD counts i 0)) → held (groupAct (take m r)) t ≡ held (groupAct (take m counts)) t
 group-narrowed t h m counts r few l e f =
     let u = length-take-le m counts l in
     let v = length-take-le m r (omega arith) in
     group-same t h (take m counts) (take m r) (omega arith) at
   where
-    at : (i : ℕ) → i < length (take m counts) → getD (take m r) i 0 ≡ least (getD (take m counts) i 0)
+    at : (i : ℕ) → i < length (take m counts) → getD (take m r) i 0 ≡ capped (getD (take m counts) i 0)
     at i q =
         let j : i < m = omega (arith, length-take-le m counts l) in
-        getD-take m r i 0 j ∙ f i j ∙ ap least (sym (getD-take m counts i 0 j))
+        getD-take m r i 0 j ∙ f i j ∙ ap capped (sym (getD-take m counts i 0 j))
 
 -- ---- the largest allowed set
 
 -- the verdict told is the rule's
-number-named : (n : ℕ) (H : House) (z : Counts) → numberOf (named (verdict n H z)) ≡ verdict n H z
+number-named : (n : ℕ) (H : House) (z : Counts) → verdictNumber (named (verdict n H z)) ≡ verdict n H z
 number-named n H z = go (eqb (sum n (waits H)) 0) (eqb (sum n z) 0) (eqb (sum n z) (sum n (waits H)))
   where
-    go : (x y w : Bool) → numberOf (named (cond x 0 (cond y 3 (cond w 1 2)))) ≡ cond x 0 (cond y 3 (cond w 1 2))
+    go : (x y w : Bool) → verdictNumber (named (cond x 0 (cond y 3 (cond w 1 2)))) ≡ cond x 0 (cond y 3 (cond w 1 2))
     go true y w = refl
     go false true w = refl
     go false false true = refl

@@ -12,7 +12,7 @@ use Rattle.booking.specs.Booking.{listed, bookedIn}
 use Rattle.tables.specs.Layout.{Tables, membersIn, houseIn}
 use Rattle.answers.specs.Codes.{codeOf}
 use Rattle.answers.specs.Outcome.{Outcome, outcome, held}
-use Rattle.answers.specs.Verdicts.{numberOf}
+use Rattle.answers.specs.Verdicts.{verdictNumber}
 use Rattle.answers.specs.declared.Refusal.{Refusal}
 use Rattle.answers.specs.declared.Submitted.{Submitted}
 use Rattle.answers.specs.declared.Submitted.the-variants as submitting
@@ -37,8 +37,8 @@ abbrev pub refusal : ℕ → Refusal → Says
 refusal n r = S.Refused n (codeOf r)
 
 -- what is said of a call's answer, and the tables after it
-abbrev pub lineOf : {A : Type 0} → (A → Says) → Outcome A → Outcome Says
-lineOf say u = outcome (say (u .answer)) (u .after)
+abbrev pub saying : {A : Type 0} → (A → Says) → Outcome A → Outcome Says
+saying say u = outcome (say (u .answer)) (u .after)
 
 abbrev pub paySays : ℕ → ℕ → ℕ → Submitted → Says
 paySays n m k submitting.Done = S.Queued n m k
@@ -46,7 +46,7 @@ paySays n m k (submitting.Refused r) = refusal n r
 
 -- payer m gives number k to a payment of x to q
 abbrev pub payDoes : ℕ → Tables → ℕ → ℕ → ℕ → ℕ → Outcome Says
-payDoes n t m k q x = lineOf (paySays n m k) (held (submitAct m k q x) t)
+payDoes n t m k q x = saying (paySays n m k) (held (submitAct m k q x) t)
 
 abbrev pub depositSays : ℕ → ℕ → Deposited → Says
 depositSays n m (depositing.Done b) = S.Deposited n m b
@@ -54,7 +54,7 @@ depositSays n m (depositing.Refused r) = refusal n r
 
 -- x is given to member m
 abbrev pub depositDoes : ℕ → Tables → ℕ → ℕ → Outcome Says
-depositDoes n t m x = lineOf (depositSays n m) (held (depositAct m x) t)
+depositDoes n t m x = saying (depositSays n m) (held (depositAct m x) t)
 
 abbrev pub releaseSays : ℕ → Released → Says
 releaseSays n (releasing.Done m k x) = S.Released n m k x
@@ -62,7 +62,7 @@ releaseSays n (releasing.Refused r) = refusal n r
 
 -- the head of member m
 abbrev pub releaseDoes : ℕ → Tables → ℕ → Outcome Says
-releaseDoes n t m = lineOf (releaseSays n) (held (releaseAct m) t)
+releaseDoes n t m = saying (releaseSays n) (held (releaseAct m) t)
 
 abbrev pub groupSays : ℕ → Grouped → Says
 groupSays n (grouping.Done k x) = S.Group n k x
@@ -70,15 +70,15 @@ groupSays n (grouping.Refused r) = refusal n r
 
 -- that many from each head, as the numbers read say
 abbrev pub groupDoes : ℕ → Tables → List ℕ → Outcome Says
-groupDoes n t k = lineOf (groupSays n) (held (groupAct k) t)
+groupDoes n t k = saying (groupSays n) (held (groupAct k) t)
 
 -- the largest count in 16 bits, which is more than ever waits
 abbrev pub mostCount : ℕ
 mostCount = 65_535
 
 -- a count in 16 bits: the smaller of it and that
-abbrev pub least : ℕ → ℕ
-least x = cond (ltb x mostCount) x mostCount
+abbrev pub capped : ℕ → ℕ
+capped x = cond (ltb x mostCount) x mostCount
 
 -- the verdict, how many payments, their sum, how many members still wait, and the lowest of them
 abbrev pub resolveSays : ℕ → ℕ → House → Counts → Says
@@ -86,7 +86,7 @@ resolveSays n m H z = S.Resolve n (verdict m H z) (sum m z) (sum m (sent H z)) (
 
 -- the same from what the call tells
 abbrev pub resolutionSays : ℕ → Resolution → Says
-resolutionSays n x = S.Resolve n (numberOf (x .verdict)) (x .payments) (x .sum) (ones (x .waiting)) (lowestIn (x .waiting))
+resolutionSays n x = S.Resolve n (verdictNumber (x .verdict)) (x .payments) (x .sum) (ones (x .waiting)) (lowestIn (x .waiting))
 
 -- the largest allowed set is booked
 abbrev pub resolveDoes : ℕ → Tables → Outcome Says

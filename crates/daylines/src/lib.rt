@@ -18,7 +18,7 @@ ghost use Rattle.tables.specs.Layout.{tables};
 ghost use Rattle.tables.specs.Holds.{Holds};
 ghost use Rattle.answers.specs.Outcome.{outcome};
 ghost use Rattle.dayfile.specs.Reading.{dayMeant, dayCounts};
-ghost use Rattle.daylines.specs.Calls.{refusal, payDoes, depositDoes, releaseDoes, groupDoes, resolveDoes, least, resolutionSays, callDoes};
+ghost use Rattle.daylines.specs.Calls.{refusal, payDoes, depositDoes, releaseDoes, groupDoes, resolveDoes, capped, resolutionSays, callDoes};
 
 // The largest count in 16 bits.
 const MOST_COUNT: u64 = 65_535;
@@ -125,7 +125,7 @@ fn group(
 // The first m counts in 16 bits: one that is above that is above what waits.
 fn narrowed(counts: &[u64], m: usize) -> [u16; House::MEMBERS]
     requires { ⌜ (m ≤ members) × (m ≤ length (now counts)) ⌝ }
-    ensures { λ r. ⌜ (length r ≡ members) × ((i : ℕ) → i < m → getD r i 0 ≡ least (getD (now (counts .entry)) i 0)) ⌝ }
+    ensures { λ r. ⌜ (length r ≡ members) × ((i : ℕ) → i < m → getD r i 0 ≡ capped (getD (now (counts .entry)) i 0)) ⌝ }
 {
     let mut k = [0u16; House::MEMBERS];
     let mut i = 0;
@@ -138,7 +138,7 @@ fn narrowed(counts: &[u64], m: usize) -> [u16; House::MEMBERS]
 
 // The smaller of x and the largest count in 16 bits.
 fn narrow(x: u64) -> u16
-    ensures { λ r. ⌜ r ≡ least x ⌝ }
+    ensures { λ r. ⌜ r ≡ capped x ⌝ }
 {
     if x < MOST_COUNT {
         x as u16

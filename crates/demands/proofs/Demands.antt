@@ -25,7 +25,7 @@ use Rattle.tables.specs.State.{isState}
 use Rattle.tables.specs.Holds.{Holds}
 use Rattle.answers.specs.Codes.{test}
 use Rattle.answers.specs.Outcome.{Act, outcome, decided, held, judgement, called}
-use Rattle.answers.specs.Verdicts.{numberOf}
+use Rattle.answers.specs.Verdicts.{verdictNumber}
 use Rattle.answers.specs.declared.Refusal.{Refusal}
 use Rattle.answers.specs.declared.Refusal.the-variants.{State}
 use Rattle.answers.specs.declared.Judged.the-variants.{Fine, Bad}
@@ -39,12 +39,12 @@ use Rattle.resolving.specs.Resolve.{resolveAct, largestIn, stillWaits}
 use Rattle.words.specs.Row.{putRow, plain}
 use Rattle.lent.specs.Bytes.{tablesIn, accountsIn, signedIn, roomy}
 use Rattle.lent.specs.Reply.{Lent}
-use Rattle.lent.specs.Asks.{partsOf, Ask, opens, resolves, replied, least}
+use Rattle.lent.specs.Asks.{answerParts, Ask, opens, resolves, replied, least}
 use Rattle.lent.specs.Stands.{Stands}
 use Rattle.days.specs.Days.{Request, afterAll, made, Inside, openingOf, Begun, Ended, Equal, queueIn}
 use Rattle.days.proofs.Sums.{day-money, chain-covered, chain-lines}
 use Rattle.days.proofs.Openings.{begun-day, day-ends-as-at-once, days-end-equal, days-end-queues}
-use Rattle.hosts.specs.Hosts.{Call, Chain, notes, Day, openingIn}
+use Rattle.hosts.specs.Hosts.{HostCall, Chain, notes, HostDay, openingIn}
 use Rattle.hosts.proofs.Demands.{refused-changes-nothing, accepted-stands, day-sum, day-covered, ends-as-at-once, days-end, days-queues}
 use Rattle.dayfile.specs.Lines.{Line}
 use Rattle.dayfile.specs.Chunks.{runOf}
@@ -66,7 +66,7 @@ use Rattle.nights.proofs.Splits.{one-split}
 use Rattle.nights.proofs.Demands.{file-money, last-ended, sheets-end-alike, sheet-as-at-once}
 use Rattle.demands.specs.Refusals.{codeIn, judgedOn}
 use Rattle.demands.specs.Settles.{Settles}
-use Rattle.demands.specs.Alike.{Alike}
+use Rattle.demands.specs.Alike.{AlikeDays}
 use Rattle.demands.specs.Terms.{sumWith, ResolvedTo}
 use Rattle.demands.proofs.Codes.{replied-code}
 use Rattle.demands.proofs.Settling.{booked-settles, resolve-answers, resolve-settles, bytes-answer, bytes-settle, toldIn}
@@ -122,12 +122,12 @@ the-largest-set = largest-one
 
 -- tables: an accepted resolution books it, and its answer has the verdict;
 pub tables-settle : (c : List ℕ) (T : Tables) → judgement (resolveAct c) T ≡ Fine
-    → (x : Resolution) × (called (resolveAct c) T .answer .0 ≡ Done x) × Settles T (called (resolveAct c) T .after) (numberOf (x .verdict))
+    → (x : Resolution) × (called (resolveAct c) T .answer .0 ≡ Done x) × Settles T (called (resolveAct c) T .after) (verdictNumber (x .verdict))
 tables-settle c T e = (toldIn T, ap (λ a. a .0) (resolve-answers c T e), resolve-settles c T e)
 
 -- bytes: so does one with code 0, and the verdict is the first part of the answer
-pub bytes-settles : {s t : List ℕ} (c : Call resolves 0 s t) → Stands s
-    → (x : Resolution) × (c .answer′ ≡ putRow plain 8 (c .answer) 0 (partsOf x)) × Settles (tablesIn s) (tablesIn t) (numberOf (x .verdict))
+pub bytes-settles : {s t : List ℕ} (c : HostCall resolves 0 s t) → Stands s
+    → (x : Resolution) × (c .answer′ ≡ putRow plain 8 (c .answer) 0 (answerParts x)) × Settles (tablesIn s) (tablesIn t) (verdictNumber (x .verdict))
 bytes-settles {s} c h = (toldIn (tablesIn s), bytes-answer c, bytes-settle c h)
 
 -- day files: so does a `resolve` line, which prints the verdict
@@ -147,7 +147,7 @@ pub tables-sum : {n : ℕ} {b l : List ℤ} {T : Tables} → Begun n b l T → (
 tables-sum = day-money
 
 -- bytes: after an accepted open and any calls;
-pub bytes-sum : {n : ℕ} {u v s t e : List ℕ} → Call (opens n u v) 0 s t → (d : Chain t e) → moneyOf (accountsIn e) ≡ sumWith n (signedIn u) (notes d)
+pub bytes-sum : {n : ℕ} {u v s t e : List ℕ} → HostCall (opens n u v) 0 s t → (d : Chain t e) → moneyOf (accountsIn e) ≡ sumWith n (signedIn u) (notes d)
 bytes-sum c d = day-sum c d
 
 -- day files: the sheet of one that comes to `end` ends in it
@@ -160,7 +160,7 @@ files-sum = file-money
 -- opening balances, all deposits and all payments taken at once. Releases, groups and resolutions may fall anywhere; lines stay as opened.
 
 module _ {n : ℕ} {b l : List ℤ} {T U W X : Tables} {qs rs : List Request} (o : Begun n b l T) (p : Begun n b l U) (d : Ended T qs W) (e : Ended U rs X)
-    (alike : Alike n (made qs T) (made rs U)) where
+    (alike : AlikeDays n (made qs T) (made rs U)) where
   -- tables: lines, balances and queues are equal,
   pub tables-end-equal : Equal W X
   tables-end-equal = days-end-equal o p d e (alike .totals) (alike .paid)
@@ -181,8 +181,8 @@ tables-lines-stay = chain-lines
 pub tables-covered : {T : Tables} → Holds T → (qs : List Request) → Inside qs T → (i : ℕ) → i < membersIn T → pos 0 ≤ℤ coverOf (afterAll qs T .accounts) i
 tables-covered = chain-covered
 
-module _ {n : ℕ} {u v s t : List ℕ} (d : Day n u v s) (e : Day n u v t)
-    (alike : Alike n (notes (d .calls)) (notes (e .calls))) where
+module _ {n : ℕ} {u v s t : List ℕ} (d : HostDay n u v s) (e : HostDay n u v t)
+    (alike : AlikeDays n (notes (d .calls)) (notes (e .calls))) where
   -- bytes: the same of two days of exported calls, each on the bytes as the one before left them,
   pub bytes-end-equal : Equal (tablesIn s) (tablesIn t)
   bytes-end-equal = days-end d e (alike .totals) (alike .paid)
@@ -190,17 +190,17 @@ module _ {n : ℕ} {u v s t : List ℕ} (d : Day n u v s) (e : Day n u v t)
   pub bytes-queues-equal : (i : ℕ) → i < n → queueIn (tablesIn s) i ≡ queueIn (tablesIn t) i
   bytes-queues-equal = days-queues d e (alike .totals) (alike .paid)
 
-pub bytes-as-at-once : {n : ℕ} {u v t : List ℕ} (d : Day n u v t)
+pub bytes-as-at-once : {n : ℕ} {u v t : List ℕ} (d : HostDay n u v t)
     → ResolvedTo n (atOnce (openingIn u v) (notes (d .calls))) (houseIn (tablesIn t))
 bytes-as-at-once d = ends-as-at-once d
 
 -- and each member is at or above minus its line after any calls
-pub bytes-covered : {n : ℕ} {u v s t e : List ℕ} → Call (opens n u v) 0 s t → (d : Chain t e) → (i : ℕ) → i < n → pos 0 ≤ℤ coverOf (accountsIn e) i
+pub bytes-covered : {n : ℕ} {u v s t e : List ℕ} → HostCall (opens n u v) 0 s t → (d : Chain t e) → (i : ℕ) → i < n → pos 0 ≤ℤ coverOf (accountsIn e) i
 bytes-covered c d = day-covered c d
 
 -- day files: of two whose last request is `resolve`, the closing lines, every `balance` line and the `money` line, are the same bytes,
 pub files-end-alike : {opening opening₁ day day₁ : List Line} {file file₁ : List ℕ} → Whole opening day file → Whole opening₁ day₁ file₁ → OpenAlike opening opening₁
-    → LastResolves opening day → LastResolves opening₁ day₁ → Alike (membersOf opening) (madeAfter opening day) (madeAfter opening₁ day₁)
+    → LastResolves opening day → LastResolves opening₁ day₁ → AlikeDays (membersOf opening) (madeAfter opening day) (madeAfter opening₁ day₁)
     → EndsIn (sheetOf file) (closingOf (tablesAfter opening day)) × EndsIn (sheetOf file₁) (closingOf (tablesAfter opening day))
 files-end-alike w v o r s alike = sheets-end-alike w v o r s (alike .totals) (alike .paid)
 

@@ -14,7 +14,7 @@ use Rattle.tables.specs.Holds.{Holds}
 use Rattle.booking.specs.Booking.{listed, bookedIn}
 use Rattle.booking.proofs.Kept.{booked-house}
 use Rattle.answers.specs.Outcome.{Outcome, Act, decided, judgement, called}
-use Rattle.answers.specs.Verdicts.{numberOf, named}
+use Rattle.answers.specs.Verdicts.{verdictNumber, named}
 use Rattle.answers.specs.declared.Judged.the-variants.{Fine}
 use Rattle.answers.specs.declared.Resolution.{Resolution}
 use Rattle.answers.specs.declared.Resolved.{Resolved}
@@ -25,17 +25,17 @@ use Rattle.resolving.proofs.Resolves.{largest-is, largest-books, resolve-verdic
 use Rattle.words.specs.Row.{putRow, plain}
 use Rattle.lent.specs.Bytes.{tablesIn, countsIn, roomy}
 use Rattle.lent.specs.Reply.{Lent, lends, written, onBytes}
-use Rattle.lent.specs.Asks.{toldResolved, partsOf, resolves}
+use Rattle.lent.specs.Asks.{toldResolved, answerParts, resolves}
 use Rattle.lent.specs.Stands.{Stands}
-use Rattle.hosts.specs.Hosts.{Call}
+use Rattle.hosts.specs.Hosts.{HostCall}
 use Rattle.hosts.proofs.Replies.{called-accepted}
 use Rattle.hosts.proofs.Links.{linked}
 use Rattle.demands.specs.Settles.{Settles}
 
-number-named : (n : ℕ) (H : House) (z : Counts) → numberOf (named (verdict n H z)) ≡ verdict n H z
+number-named : (n : ℕ) (H : House) (z : Counts) → verdictNumber (named (verdict n H z)) ≡ verdict n H z
 number-named n H z = go (eqb (sum n (waits H)) 0) (eqb (sum n z) 0) (eqb (sum n z) (sum n (waits H)))
   where
-    go : (x y w : Bool) → numberOf (named (cond x 0 (cond y 3 (cond w 1 2)))) ≡ cond x 0 (cond y 3 (cond w 1 2))
+    go : (x y w : Bool) → verdictNumber (named (cond x 0 (cond y 3 (cond w 1 2)))) ≡ cond x 0 (cond y 3 (cond w 1 2))
     go true y w = refl
     go false true w = refl
     go false false true = refl
@@ -58,10 +58,10 @@ module _ (k : List ℕ) (T : Tables) (fine : judgement (resolveAct k) T ≡ Fine
   unfolding resolveAct
   resolve-answers = ap (λ (u : Outcome (Resolved × List ℕ)). u .answer) done-is
 
-  pub resolve-settles : Settles T (called (resolveAct k) T .after) (numberOf (toldIn T .verdict))
+  pub resolve-settles : Settles T (called (resolveAct k) T .after) (verdictNumber (toldIn T .verdict))
   unfolding resolveAct
   resolve-settles =
-      let v = numberOf (toldIn T .verdict) in
+      let v = verdictNumber (toldIn T .verdict) in
       let a : bookedIn T (listed (largestIn T)) ≡ called (resolveAct k) T .after = sym (ap (λ (u : Outcome (Resolved × List ℕ)). u .after) done-is) in
       let e = sym (number-named (membersIn T) (houseIn T) (listed (largestIn T))) in
       let s : Settles T (bookedIn T (listed (largestIn T))) v = subst (Settles T (bookedIn T (listed (largestIn T)))) e (booked-settles (judgement-fine (resolveAct k) T fine .0)) in
@@ -69,7 +69,7 @@ module _ (k : List ℕ) (T : Tables) (fine : judgement (resolveAct k) T ≡ Fine
 
 -- ---- on a host's bytes
 
-module _ {s t : List ℕ} (c : Call resolves 0 s t) where
+module _ {s t : List ℕ} (c : HostCall resolves 0 s t) where
   abbrev K : Act (Resolved × List ℕ)
   K = resolveAct (countsIn (c .counts))
 
@@ -78,18 +78,18 @@ module _ {s t : List ℕ} (c : Call resolves 0 s t) where
   bytes-fine = called-accepted K 48 toldResolved (λ r. refl) (lends s (c .counts) (c .answer)) (c .promise) .fine
 
   -- what the answer's bytes hold
-  pub bytes-answer : c .answer′ ≡ putRow plain 8 (c .answer) 0 (partsOf (toldIn (tablesIn s)))
+  pub bytes-answer : c .answer′ ≡ putRow plain 8 (c .answer) 0 (answerParts (toldIn (tablesIn s)))
   bytes-answer = go (roomy (length s) (length (c .answer)) 48) (c .promise)
     where
       go : (b : Bool) → (0, lends t (c .counts′) (c .answer′)) ≡ cond b (onBytes toldResolved (called K) (lends s (c .counts) (c .answer))) (1, lends s (c .counts) (c .answer))
-          → c .answer′ ≡ putRow plain 8 (c .answer) 0 (partsOf (toldIn (tablesIn s)))
+          → c .answer′ ≡ putRow plain 8 (c .answer) 0 (answerParts (toldIn (tablesIn s)))
       go true e =
           let a : called K (tablesIn s) .answer ≡ (Done (toldIn (tablesIn s)), largestIn (tablesIn s)) = resolve-answers (countsIn (c .counts)) (tablesIn s) bytes-fine in
           ap (λ (r : ℕ × Lent). r .1 .answer) e
           ∙ ap (λ (r : Resolved × List ℕ). written (lends s (c .counts) (c .answer)) (called K (tablesIn s) .after) (toldResolved r) .1 .answer) a
       go false e = absurd (let z : _≡_ {A = ℕ} 0 1 = ap (λ (r : ℕ × Lent). r .0) e in omega arith)
 
-  pub bytes-settle : Stands s → Settles (tablesIn s) (tablesIn t) (numberOf (toldIn (tablesIn s) .verdict))
+  pub bytes-settle : Stands s → Settles (tablesIn s) (tablesIn t) (verdictNumber (toldIn (tablesIn s) .verdict))
   bytes-settle h =
-      let v = numberOf (toldIn (tablesIn s) .verdict) in
+      let v = verdictNumber (toldIn (tablesIn s) .verdict) in
       subst (λ (W : Tables). Settles (tablesIn s) W v) (sym (linked h c tt .is)) (resolve-settles (countsIn (c .counts)) (tablesIn s) bytes-fine)

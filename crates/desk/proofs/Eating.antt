@@ -7,7 +7,7 @@ use native.Mathlib.Omega.{arith}
 use lib.ListN.{length, take, drop, length-take, length-drop}
 use lib.Seq.{drop-drop, take-all}
 use Rattle.dayfile.specs.declared.lines.Cut.{Cut}
-use Rattle.dayfile.specs.Chunks.{Held, none, lineOf, stateOf, Eaten, eatOf, WholeAt}
+use Rattle.dayfile.specs.Chunks.{Held, nothingHeld, heldLine, stateOf, Eaten, eatOf, WholeAt}
 use Rattle.dayfile.proofs.Chunks.{eats}
 use Rattle.desk.specs.Sheet.{Night, answered}
 use Rattle.desk.specs.Desk.{Desk, eatTurn}
@@ -15,8 +15,8 @@ use Rattle.desk.specs.Desk.{Desk, eatTurn}
 module _ (chunk : List ℕ) (from : ℕ) (n : Night) (h : Held) where
   -- a line was ended, and answered,
   pub eat-done : (at : ℕ) (h₁ : Held) (n₁ : Night) → true ≡ eatOf (drop from chunk) h .done → at ≡ from + eatOf (drop from chunk) h .used
-      → h₁ ≡ eatOf (drop from chunk) h .held → n₁ ≡ answered n (lineOf h₁)
-      → _≡_ {A = Desk} (record { rest = drop at chunk; night = n₁; held = none }) (eatTurn (record { rest = drop from chunk; night = n; held = h }))
+      → h₁ ≡ eatOf (drop from chunk) h .held → n₁ ≡ answered n (heldLine h₁)
+      → _≡_ {A = Desk} (record { rest = drop at chunk; night = n₁; held = nothingHeld }) (eatTurn (record { rest = drop from chunk; night = n; held = h }))
   eat-done at h₁ n₁ p q r s = rw (← p, ← r, ← s, drop-drop (eatOf (drop from chunk) h .used) from chunk, q)
 
   -- or it is held,
@@ -38,8 +38,8 @@ module _ (chunk buf : List ℕ) (from : ℕ) (n : Night) {e : ℕ} {c k : Cut} (
       ∙ ap (λ (bs : List ℕ). record { bytes = bs; over = false })
       (take-all (e - from) (take (e - from) (drop from chunk)) (omega (arith, length-take (e - from) (drop from chunk))))
 
-  pub whole-done : {n₁ : Night} → n₁ ≡ answered n (lineOf (stateOf (take (e - from) (drop from chunk)) k))
-      → _≡_ {A = Desk} (record { rest = drop (e + 1) chunk; night = n₁; held = none })
+  pub whole-done : {n₁ : Night} → n₁ ≡ answered n (heldLine (stateOf (take (e - from) (drop from chunk)) k))
+      → _≡_ {A = Desk} (record { rest = drop (e + 1) chunk; night = n₁; held = nothingHeld })
       (eatTurn (record { rest = drop from chunk; night = n; held = stateOf buf c }))
   whole-done {n₁} f =
       eat-done chunk from n (stateOf buf c) (e + 1) (stateOf (take (e - from) (drop from chunk)) k) n₁

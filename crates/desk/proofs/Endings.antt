@@ -18,7 +18,7 @@ use Rattle.sheet.specs.Lines.{textOf}
 use Rattle.night.specs.declared.Stage.{Stage}
 use Rattle.night.specs.declared.Stage.the-variants as G
 use Rattle.night.specs.Lines.{balanceSays, endSays, endAt, endNext}
-use Rattle.night.specs.Stands.{Telling, Stands}
+use Rattle.night.specs.Stands.{Telling, StageStands}
 use Rattle.desk.specs.declared.State.{State}
 use Rattle.desk.specs.Sheet.{textsOf}
 use Rattle.desk.specs.Desk.{endSaid}
@@ -49,7 +49,7 @@ text-next t k l = go (ltb k (countOf (t .counters))) refl
 module _ (s : State) (t : Tables) (k : ℕ) (q : s .stage ≡ G.Ending k) where
   -- the tables hold a state, of which k members were told
   pub telling : {n : ℕ} → Fit s t n → Telling k t
-  telling f = subst (λ (g : Stage). Stands g t) q (f .stands)
+  telling f = subst (λ (g : Stage). StageStands g t) q (f .stands)
 
   -- the night after it
   pub end-said : (out out₁ : List ℕ) (r : State) (l : Says) → Telling k t → l ≡ endAt t k → r .lines ≡ s .lines → r .stage ≡ endNext (t .counters) k
@@ -68,9 +68,9 @@ module _ (s : State) (t : Tables) (k : ℕ) (q : s .stage ≡ G.Ending k) where
       go false = omega (arith, few)
 
   -- and the tables suit the stage behind it
-  pub end-stands : Telling k t → (r : State) → r .stage ≡ endNext (t .counters) k → Stands (r .stage) t
+  pub end-stands : Telling k t → (r : State) → r .stage ≡ endNext (t .counters) k → StageStands (r .stage) t
   end-stands h r e = rw e (go (ltb k (countOf (t .counters))) refl)
     where
-      go : (b : Bool) → ltb k (countOf (t .counters)) ≡ b → Stands (cond b (G.Ending (k + 1)) G.Over) t
+      go : (b : Bool) → ltb k (countOf (t .counters)) ≡ b → StageStands (cond b (G.Ending (k + 1)) G.Over) t
       go true e = let j = ltb-true k (countOf (t .counters)) e in record { told = omega arith; holds = h .holds }
       go false e = tt

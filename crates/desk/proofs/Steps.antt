@@ -19,13 +19,13 @@ use Rattle.night.specs.declared.Does.{Does}
 use Rattle.tables.specs.Sizes.{lastNumber}
 use Rattle.tables.specs.Layout.{Tables}
 use Rattle.daylines.specs.Calls.{refusal}
-use Rattle.night.specs.Lines.{saidIn, did, doesOf}
-use Rattle.night.specs.Stands.{Stands}
+use Rattle.night.specs.Lines.{saidIn, doneBy, doesOf}
+use Rattle.night.specs.Stands.{StageStands}
 use Rattle.night.proofs.Kept.{Kept, does-kept}
 use Rattle.desk.specs.declared.State.{State}
 use Rattle.dayfile.specs.Entries.{mostLines}
 use Rattle.night.specs.Stages.{isOver}
-use Rattle.desk.specs.Sheet.{Night, entryIn, after, stopped, answered, textsOf}
+use Rattle.desk.specs.Sheet.{Night, entryIn, afterLine, stopped, answered, textsOf}
 use Rattle.desk.specs.States.{nightOf, stateAt, Fit}
 
 -- what is read of a line is small enough for the night
@@ -38,16 +38,16 @@ line-read l {e} {vs} t = record { small = subst smallEntry (sym (t .means)) (go 
 
 -- what the line did suits the stage behind it
 pub did-kept : (n : ℕ) (g : Stage) (t : Tables) (e : Entry) (r : Does) (u : Tables) → n ≤ mostLines → ((i : ℕ) → getD (t .counters) i 0 ≤ lastNumber)
-    → Stands g t
-    → did r (u .accounts) (u .counters) (u .pays) ≡ doesOf n g t e → Kept (did r (u .accounts) (u .counters) (u .pays))
+    → StageStands g t
+    → doneBy r (u .accounts) (u .counters) (u .pays) ≡ doesOf n g t e → Kept (doneBy r (u .accounts) (u .counters) (u .pays))
 did-kept n g t e r u few w s q = rw q (does-kept n (omega arith) g t e w s)
 
 module _ (s : State) (t : Tables) (out : List ℕ) where
   -- a line that is taken
   pub taken : (e : Entry) (r : Does) (u : Tables) (used : ℕ) (out₁ : List ℕ)
-      → did r (u .accounts) (u .counters) (u .pays) ≡ doesOf (s .lines + 1) (s .stage) t e
+      → doneBy r (u .accounts) (u .counters) (u .pays) ≡ doesOf (s .lines + 1) (s .stage) t e
       → take used out₁ ≡ take (s .used) out ++ textsOf (saidIn (r .said))
-      → nightOf (stateAt (s .lines + 1) (r .stage) used) u out₁ ≡ after (nightOf s t out) (doesOf (s .lines + 1) (s .stage) t e)
+      → nightOf (stateAt (s .lines + 1) (r .stage) used) u out₁ ≡ afterLine (nightOf s t out) (doesOf (s .lines + 1) (s .stage) t e)
   taken e r u used out₁ q f = rw (← q, f)
 
   -- a refusal that stops the night
@@ -58,7 +58,7 @@ module _ (s : State) (t : Tables) (out : List ℕ) where
   module _ (l : Line) (on : isOver (s .stage) ≡ false) where
     -- a line is answered by being taken,
     pub answered-taken : {e : Answer} {vs : List ℕ} (d : Night) → s .lines < mostLines → Tells e vs (entryIn l)
-        → d ≡ after (nightOf s t out) (doesOf (s .lines + 1) (s .stage) t (meant e vs)) → d ≡ answered (nightOf s t out) l
+        → d ≡ afterLine (nightOf s t out) (doesOf (s .lines + 1) (s .stage) t (meant e vs)) → d ≡ answered (nightOf s t out) l
     answered-taken d few q f = f ∙ rw (q .means, on, lt-ltb (s .lines) mostLines few)
 
     -- or refused as one too many

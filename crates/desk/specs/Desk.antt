@@ -4,7 +4,7 @@ use mathlib.Core.Bool.{cond}
 use mathlib.Core.List.{List, _++_}
 use Prim.Native.Nat.{ℕ}
 use lib.ListN.{take, drop}
-use Rattle.dayfile.specs.Chunks.{Held, none, lineOf, Eaten, eatOf}
+use Rattle.dayfile.specs.Chunks.{Held, nothingHeld, heldLine, Eaten, eatOf}
 use Rattle.night.specs.Stages.{restSays, nextStage}
 use Rattle.desk.specs.Sheet.{Night, textsOf, answered}
 
@@ -29,8 +29,8 @@ abbrev pub eatenTo : Desk → Eaten → Desk
 eatenTo d e =
     record {
       rest = drop (e .used) (d .rest);
-      night = cond (e .done) (answered (d .night) (lineOf (e .held))) (d .night);
-      held = cond (e .done) none (e .held);
+      night = cond (e .done) (answered (d .night) (heldLine (e .held))) (d .night);
+      held = cond (e .done) nothingHeld (e .held);
     }
 
 -- the next line of the bytes to come, or all of them

@@ -18,7 +18,7 @@ use Rattle.night.specs.declared.Stage.{Stage}
 use Rattle.night.specs.declared.Stage.the-variants as G
 use Rattle.daylines.specs.Calls.{refusal}
 use Rattle.night.specs.Lines.{Did, doesOf}
-use Rattle.night.specs.Stages.{isOver, restSays, told}
+use Rattle.night.specs.Stages.{isOver, restSays, saidAll}
 
 -- lines read so far, the stage, the tables, and the sheet so far
 pub record Night : Type 0 where
@@ -34,7 +34,7 @@ textsOf (s ∷ ss) = textOf s ++ textsOf ss
 
 -- the night once all is said that the stage has still to say
 abbrev pub finished : Night → Night
-finished d = record { lines = d .lines; stage = told (d .stage); tables = d .tables; sheet = d .sheet ++ textsOf (restSays (d .stage) (d .tables)) }
+finished d = record { lines = d .lines; stage = saidAll (d .stage); tables = d .tables; sheet = d .sheet ++ textsOf (restSays (d .stage) (d .tables)) }
 
 -- what a line says; one that is too long is bad
 abbrev pub entryIn : Line → Entry
@@ -42,8 +42,8 @@ entryIn (text s) = entryOf s
 entryIn long = bad
 
 -- the night after a line that did r: the lines that it says at once come behind the sheet so far
-abbrev pub after : Night → Did → Night
-after d r = record { lines = d .lines + 1; stage = r .stage; tables = r .after; sheet = d .sheet ++ textsOf (r .said) }
+abbrev pub afterLine : Night → Did → Night
+afterLine d r = record { lines = d .lines + 1; stage = r .stage; tables = r .after; sheet = d .sheet ++ textsOf (r .said) }
 
 -- bad line n: it is refused, and the night stops
 abbrev pub stopped : ℕ → Night → Night
@@ -54,7 +54,7 @@ abbrev pub answered : Night → Line → Night
 answered d l =
     cond (isOver (d .stage)) d
     (cond (ltb (d .lines) mostLines)
-    (after d (doesOf (d .lines + 1) (d .stage) (d .tables) (entryIn l)))
+    (afterLine d (doesOf (d .lines + 1) (d .stage) (d .tables) (entryIn l)))
     (stopped (d .lines + 1) d))
 
 -- the night after a line and all that is to be said then

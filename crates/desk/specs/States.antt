@@ -12,7 +12,7 @@ use Rattle.night.specs.declared.Stage.the-variants as G
 use Rattle.tables.specs.Sizes.{members}
 use Rattle.tables.specs.Layout.{Tables}
 use Rattle.dayfile.specs.Entries.{mostLines}
-use Rattle.night.specs.Stands.{Stands}
+use Rattle.night.specs.Stands.{StageStands}
 use Rattle.desk.specs.declared.State.{State}
 use Rattle.desk.specs.Sheet.{Night}
 use Rattle.desk.specs.Desk.{Desk}
@@ -55,4 +55,4 @@ pub record Fit (s : State) (t : Tables) (n : ℕ) : Type 0 where
   pub few : s .lines ≤ mostLines
   pub room : s .used ≤ n
   pub held : s .cut .held ≤ mostBytes
-  pub stands : Stands (s .stage) t
+  pub stands : StageStands (s .stage) t

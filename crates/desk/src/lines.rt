@@ -12,7 +12,7 @@ ghost use mathlib.Core.List.{_++_};
 ghost use Prim.Native.Nat.{_+_, _≤_, _<_};
 ghost use lib.ListN.{length, take};
 ghost use Rattle.answers.specs.declared.Refusal.the-variants.{Line};
-ghost use Rattle.dayfile.specs.Chunks.{lineOf, stateOf};
+ghost use Rattle.dayfile.specs.Chunks.{heldLine, stateOf};
 ghost use Rattle.sheet.specs.Lines.{textOf};
 ghost use Rattle.sheet.specs.Room.{leastRoom};
 ghost use Rattle.night.specs.declared.Stage.the-variants.{Over};
@@ -22,7 +22,7 @@ ghost use Rattle.night.specs.Lines.{doesOf};
 ghost use Rattle.dayfile.specs.Entries.{mostLines, mostCounts};
 ghost use Rattle.dayfile.specs.Reading.{meant, Tells, Read};
 ghost use Rattle.night.specs.Stages.{isOver};
-ghost use Rattle.desk.specs.Sheet.{entryIn, after, answered};
+ghost use Rattle.desk.specs.Sheet.{entryIn, afterLine, answered};
 ghost use Rattle.desk.specs.States.{nightOf, fresh, stateAt, Grown, Fit};
 
 // A line is ended, and answered.
@@ -37,7 +37,7 @@ pub fn line_on(
 ) -> State
     requires { ⌜ Fit s (tables (now accounts) (now counters) (now pays)) (length (now out)) × (isOver (s .stage) ≡ false) ⌝ }
     requires { ⌜ (length (now counts) ≡ mostCounts) × (s .cut .held ≤ length (now buf)) × (s .used + leastRoom ≤ length (now out)) ⌝ }
-    ensures { λ r. ⌜ nightOf r (tables (now (accounts .exit)) (now (counters .exit)) (now (pays .exit))) (now (out .exit)) ≡ answered (nightOf s (tables (now (accounts .entry)) (now (counters .entry)) (now (pays .entry))) (now (out .entry))) (lineOf (stateOf (now (buf .entry)) (s .cut))) ⌝ }
+    ensures { λ r. ⌜ nightOf r (tables (now (accounts .exit)) (now (counters .exit)) (now (pays .exit))) (now (out .exit)) ≡ answered (nightOf s (tables (now (accounts .entry)) (now (counters .entry)) (now (pays .entry))) (now (out .entry))) (heldLine (stateOf (now (buf .entry)) (s .cut))) ⌝ }
     ensures { λ r. ⌜ Fit r (tables (now (accounts .exit)) (now (counters .exit)) (now (pays .exit))) (length (now (out .entry))) × (r .cut ≡ fresh) × Grown (s .used) (r .used) (now (out .entry)) (now (out .exit)) ⌝ }
 {
     if s.lines < dayfile::MOST_LINES {
@@ -50,7 +50,7 @@ pub fn line_on(
 // What the line says that the buffer holds. A group's counts are left in the lent list.
 fn read(buf: &[u8], c: Cut, counts: &mut [u64]) -> Entry
     requires { ⌜ (length (now counts) ≡ mostCounts) × (c .held ≤ length (now buf)) ⌝ }
-    ensures { λ r. ⌜ Tells r (now (counts .exit)) (entryIn (lineOf (stateOf (now (buf .entry)) c))) ⌝ }
+    ensures { λ r. ⌜ Tells r (now (counts .exit)) (entryIn (heldLine (stateOf (now (buf .entry)) c))) ⌝ }
 {
     if c.is_long {
         return Entry::Bad;
@@ -70,7 +70,7 @@ fn take_line(
     e: Entry,
 ) -> State
     requires { ⌜ Fit s (tables (now accounts) (now counters) (now pays)) (length (now out)) × Read e (now counts) × (s .lines < mostLines) × (s .used + leastRoom ≤ length (now out)) ⌝ }
-    ensures { λ r. ⌜ nightOf r (tables (now (accounts .exit)) (now (counters .exit)) (now (pays .exit))) (now (out .exit)) ≡ after (nightOf s (tables (now (accounts .entry)) (now (counters .entry)) (now (pays .entry))) (now (out .entry))) (doesOf (s .lines + 1) (s .stage) (tables (now (accounts .entry)) (now (counters .entry)) (now (pays .entry))) (meant e (now (counts .entry)))) ⌝ }
+    ensures { λ r. ⌜ nightOf r (tables (now (accounts .exit)) (now (counters .exit)) (now (pays .exit))) (now (out .exit)) ≡ afterLine (nightOf s (tables (now (accounts .entry)) (now (counters .entry)) (now (pays .entry))) (now (out .entry))) (doesOf (s .lines + 1) (s .stage) (tables (now (accounts .entry)) (now (counters .entry)) (now (pays .entry))) (meant e (now (counts .entry)))) ⌝ }
     ensures { λ r. ⌜ Fit r (tables (now (accounts .exit)) (now (counters .exit)) (now (pays .exit))) (length (now (out .entry))) × (r .cut ≡ fresh) × Grown (s .used) (r .used) (now (out .entry)) (now (out .exit)) ⌝ }
 {
     let n = s.lines + 1;

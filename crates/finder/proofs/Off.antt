@@ -23,7 +23,7 @@ use Rattle.rule.proofs.Find.{put-all, around-lower}
 use Rattle.tables.specs.Sizes.{members}
 use Rattle.finder.specs.Limits.{farAmount}
 use Rattle.finder.specs.Tops.{countsOf, height, Linked}
-use Rattle.finder.specs.Finder.{Ranges, Stood, Ready, Short, Off, TakenOff}
+use Rattle.finder.specs.Finder.{InRange, Stood, Ready, Short, Off, TakenOff}
 use Rattle.finder.proofs.Tops.{payee-under, one-less, last-stands, top-above}
 use Rattle.finder.proofs.Links.{linked-below}
 use Rattle.finder.proofs.Positions.{moved-at, moved-far}
@@ -78,7 +78,7 @@ counts-off {pays} {s} {ts} {us} t h = counts-path (λ i.
     (rw (t .tops, getD-set-same ts s (t .top) 0 h, t .same))
     (λ ne. rw (t .tops, getD-set-other ts s i (t .top) 0 ne)))
 
-module _ {used : ℕ} {pays : List ℕ} {xs ys lines : List ℤ} {ts us : List ℕ} {s p : ℕ} (r : Ranges used pays xs lines ts) (inside : s < members)
+module _ {used : ℕ} {pays : List ℕ} {xs ys lines : List ℤ} {ts us : List ℕ} {s p : ℕ} (r : InRange used pays xs lines ts) (inside : s < members)
     (t : TakenOff p pays s xs ys ts us) where
   payment-is : {n : ℕ} {H : House} → Stood n used H pays xs lines ts → s < n
       → getD (H .queue s) (length (queueOf s (take (t .place) pays))) 0 ≡ getD pays (t .place) 0
@@ -126,7 +126,7 @@ module _ {used : ℕ} {pays : List ℕ} {xs ys lines : List ℤ} {ts us : List �
       (rw (t .tops, getD-set-same ts s (t .top) 0 (rw (r .topped .each) inside)) (omega (arith, t .low, t .last .under)))
 
   -- and as it falls by one or more, no position can leave its range
-  pub ranges-off : Ranges used pays ys lines us
+  pub ranges-off : InRange used pays ys lines us
   ranges-off = record {
     topped = record {
       places = r .topped .places;

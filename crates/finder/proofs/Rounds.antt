@@ -9,12 +9,12 @@ use lib.IntN.{ℤ}
 use Rattle.rule.specs.House.{House, LargestSet}
 use Rattle.rule.proofs.Find.{around-done}
 use Rattle.finder.specs.Tops.{countsOf, height}
-use Rattle.finder.specs.Finder.{Ranges, Stood, Ready, Keeps, NoneShort, FoundSet, Fell, Stepped, Went, Rounded}
+use Rattle.finder.specs.Finder.{InRange, Stood, Ready, Keeps, NoneShort, FoundSet, Fell, Stepped, Went, Rounded}
 use Rattle.finder.proofs.Off.{else-covered}
 
 -- the finder can go on from whatever it has kept
 pub ready-on : {n used : ℕ} {pays : List ℕ} {lines xs ys : List ℤ} {ts us : List ℕ}
-    → Ready n used pays xs lines ts → Ranges used pays ys lines us → Keeps n used pays lines xs ts ys us → Ready n used pays ys lines us
+    → Ready n used pays xs lines ts → InRange used pays ys lines us → Keeps n used pays lines xs ts ys us → Ready n used pays ys lines us
 ready-on d r k = record { ranges = r; house = d .house; stood = k (d .house) (d .stood) }
 
 -- ---- a round, member by member
@@ -49,7 +49,7 @@ Ended true n ys lines = Unit {0}
 Ended false n ys lines = NoneShort n ys lines
 
 pub record Searching (again : Bool) (n used : ℕ) (pays : List ℕ) (lines xs ys : List ℤ) (ts us : List ℕ) : Type 0 where
-  pub ranges : Ranges used pays ys lines us
+  pub ranges : InRange used pays ys lines us
   pub keeps : Keeps n used pays lines xs ts ys us
   pub end : Ended again n ys lines
 

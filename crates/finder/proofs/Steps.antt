@@ -7,7 +7,7 @@ use native.Mathlib.Omega.{arith}
 use lib.IntN.{ℤ}
 use Rattle.tables.specs.Sizes.{members}
 use Rattle.finder.specs.Tops.{height}
-use Rattle.finder.specs.Finder.{Ranges, Ready, Keeps, Short, TakenOff, Fell, Stepped}
+use Rattle.finder.specs.Finder.{InRange, Ready, Keeps, Short, TakenOff, Fell, Stepped}
 use Rattle.finder.proofs.Off.{stood-off, height-off, ranges-off}
 
 -- the step is still at its first member, nobody is due, and nothing changed; or a payment was taken off
@@ -17,7 +17,7 @@ Way true i m due xs ys ts us = height us < height ts
 
 -- the step from member i has come to m
 pub record Stepping (any : Bool) (n used i m due : ℕ) (pays : List ℕ) (lines xs ys : List ℤ) (ts us : List ℕ) : Type 0 where
-  pub ranges : Ranges used pays ys lines us
+  pub ranges : InRange used pays ys lines us
   pub keeps : Keeps n used pays lines xs ts ys us
   pub low : height us ≤ height ts
   pub way : Way any i m due xs ys ts us

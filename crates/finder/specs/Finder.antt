@@ -20,7 +20,7 @@ use Rattle.finder.specs.Positions.{moved, Small, Steady}
 -- ---- what is asked
 
 -- the lists have their sizes, each top is just behind a payment of its member, and no position can leave its range before every top is 0
-pub record Ranges (used : ℕ) (pays : List ℕ) (positions lines : List ℤ) (tops : List ℕ) : Type 0 where
+pub record InRange (used : ℕ) (pays : List ℕ) (positions lines : List ℤ) (tops : List ℕ) : Type 0 where
   pub topped : Topped used pays tops
   pub behind : (i : ℕ) → i < members → Behind pays i (getD tops i 0)
   pub each-position : length positions ≡ members
@@ -41,7 +41,7 @@ pub record Stood (n used : ℕ) (H : House) (pays : List ℕ) (positions lines :
 
 -- some house stands so
 pub record Ready (n used : ℕ) (pays : List ℕ) (positions lines : List ℤ) (tops : List ℕ) : Type 0 where
-  pub ranges : Ranges used pays positions lines tops
+  pub ranges : InRange used pays positions lines tops
   pub house : House
   pub stood : Stood n used house pays positions lines tops
 
@@ -61,7 +61,7 @@ pub record NoneShort (n : ℕ) (xs lines : List ℤ) : Type 0 where
 
 -- no member is short any more, of every house that stood so before
 pub record FoundSet (n used : ℕ) (pays : List ℕ) (lines xs ys : List ℤ) (ts us : List ℕ) : Type 0 where
-  pub ranges : Ranges used pays ys lines us
+  pub ranges : InRange used pays ys lines us
   pub keeps : Keeps n used pays lines xs ts ys us
   pub none : NoneShort n ys lines
 
@@ -99,7 +99,7 @@ Fell true i lines xs ys ts us = height us < height ts
 
 -- a step was made from member i, and took a payment off or not
 pub record Stepped (any : Bool) (n used i : ℕ) (pays : List ℕ) (lines xs ys : List ℤ) (ts us : List ℕ) : Type 0 where
-  pub ranges : Ranges used pays ys lines us
+  pub ranges : InRange used pays ys lines us
   pub keeps : Keeps n used pays lines xs ts ys us
   pub low : height us ≤ height ts
   pub fell : Fell any i lines xs ys ts us
@@ -113,7 +113,7 @@ Went true m ys lines ts us = height us < height ts
 
 -- a round of the n members is past the first m
 pub record Rounded (any : Bool) (n used m : ℕ) (pays : List ℕ) (lines xs ys : List ℤ) (ts us : List ℕ) : Type 0 where
-  pub ranges : Ranges used pays ys lines us
+  pub ranges : InRange used pays ys lines us
   pub keeps : Keeps n used pays lines xs ts ys us
   pub low : height us ≤ height ts
   pub went : Went any m ys lines ts us

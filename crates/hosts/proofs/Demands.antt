@@ -31,7 +31,7 @@ use Rattle.lent.specs.Asks.{Ask, opens, deposits, submits, releases, groups, re
 use Rattle.days.specs.Days.{Request, Begun, Ended, Equal, queueIn, made}
 use Rattle.days.proofs.Sums.{day-money, chain-covered}
 use Rattle.days.proofs.Openings.{begun-stands, begun-members, day-ends-as-at-once, days-end-equal, days-end-queues}
-use Rattle.hosts.specs.Hosts.{Call, Chain, notes, Day, openingIn}
+use Rattle.hosts.specs.Hosts.{HostCall, Chain, notes, HostDay, openingIn}
 use Rattle.hosts.proofs.Replies.{refused-keeps, held-accepted, called-accepted}
 use Rattle.hosts.proofs.Sizes.{kept-opened}
 use Rattle.hosts.proofs.Links.{Link, Took, stored-stands, taken, took-link, linked}
@@ -46,13 +46,13 @@ refused-changes-nothing = refused-keeps
 took-stands : {s t : List ℕ} {cs : List Noted} {qs : List Request} → ((k : ℕ) → getD s k 0 < 256) → Took s t cs qs → Stands t
 took-stands {s} b a = took-link (held-kept s b (a .holds)) a .stands
 
-resolved-fine : {s t : List ℕ} (c : Call resolves 0 s t) → judgement (resolveAct (countsIn (c .counts))) (tablesIn s) ≡ Fine
+resolved-fine : {s t : List ℕ} (c : HostCall resolves 0 s t) → judgement (resolveAct (countsIn (c .counts))) (tablesIn s) ≡ Fine
 unfolding resolveAct
 resolved-fine {s} c = called-accepted (resolveAct (countsIn (c .counts))) 48 toldResolved (λ r. refl) (lends s (c .counts) (c .answer)) (c .promise) .fine
 
 -- ---- an accepted open
 
-module _ {n : ℕ} {u v s t : List ℕ} (c : Call (opens n u v) 0 s t) where
+module _ {n : ℕ} {u v s t : List ℕ} (c : HostCall (opens n u v) 0 s t) where
   opened : Stands t × (tablesIn t ≡ openedIn (tablesIn s) n (signedIn u) (signedIn v)) × (first (openAct n (signedIn u) (signedIn v) .tests (tablesIn s)) ≡ Fine)
   unfolding openAct
   opened =
@@ -93,7 +93,7 @@ module _ {n : ℕ} {u v s t : List ℕ} (c : Call (opens n u v) 0 s t) where
 -- ---- after an accepted call
 
 -- whatever was asked, on any bytes: where the code is 0, the tables hold a state again
-pub accepted-stands : {s t : List ℕ} → ((k : ℕ) → getD s k 0 < 256) → (q : Ask) → Call q 0 s t → Stands t
+pub accepted-stands : {s t : List ℕ} → ((k : ℕ) → getD s k 0 < 256) → (q : Ask) → HostCall q 0 s t → Stands t
 accepted-stands b (opens n u v) c = opened-stands c
 accepted-stands b (deposits m x) c = took-stands b (taken (deposits m x) c tt)
 accepted-stands b (submits m n q x) c = took-stands b (taken (submits m n q x) c tt)
@@ -114,7 +114,7 @@ at-once-same : (O : House) (cs ds : List Noted) → ((i : ℕ) → depositsOf cs
     → atOnce O cs ≡ atOnce O ds
 at-once-same O cs ds e f j = lined (credited O (λ i. e i j)) (λ i. f i j)
 
-module _ {n : ℕ} {u v t : List ℕ} (d : Day n u v t) where
+module _ {n : ℕ} {u v t : List ℕ} (d : HostDay n u v t) where
   link : Link (d .morning) (d .eve) (notes (d .calls)) (requests (d .calls))
   link = chained (opened-stands (d .first)) (d .calls)
 
@@ -139,7 +139,7 @@ module _ {n : ℕ} {u v t : List ℕ} (d : Day n u v t) where
       let e = at-once-same (openingIn u v) (made (requests (d .calls)) (tablesIn (d .morning))) (notes (d .calls)) (link .deposits) (link .payments) in
       (z .0, subst (λ H. LargestSet n H (z .0)) e (z .1), subst (λ H. Same n (booked n H (z .0)) (houseIn (tablesIn t))) e (z .2))
 
-module _ {n : ℕ} {u v t r : List ℕ} (d : Day n u v t) (e : Day n u v r)
+module _ {n : ℕ} {u v t r : List ℕ} (d : HostDay n u v t) (e : HostDay n u v r)
     (paid-in : (i : ℕ) → i < n → depositsOf (notes (e .calls)) i ≡ depositsOf (notes (d .calls)) i)
     (paid : (i : ℕ) → i < n → payments (notes (e .calls)) i ≡ payments (notes (d .calls)) i) where
   -- two days that open alike, with equal totals of accepted deposits for each member and the same accepted payments in the same order

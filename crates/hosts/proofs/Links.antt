@@ -23,7 +23,7 @@ use Rattle.lent.specs.Reply.{Lent, lends}
 use Rattle.lent.specs.Asks.{Ask, opens, deposits, submits, releases, groups, resolves, toldDeposited, toldSubmitted, toldReleased, toldGrouped, toldResolved}
 use Rattle.days.specs.Days as day
 use Rattle.days.specs.Days.{Request, after, GoesOn, afterAll, made, Inside}
-use Rattle.hosts.specs.Hosts.{Call, Continues, byCode, noted}
+use Rattle.hosts.specs.Hosts.{HostCall, Continues, byCode, noted}
 use Rattle.hosts.proofs.Replies.{refused-keeps, Accepted, called-accepted}
 use Rattle.hosts.proofs.Sizes.{kept-after}
 
@@ -74,7 +74,7 @@ module _ {A : Type 0} (k : Act A) (r : Request) {ns : List Noted} {s t : List �
     payments = h (a .fine);
   }
 
-pub taken : {s t : List ℕ} (q : Ask) (c : Call q 0 s t) → Continues q 0 → Took s t (noted q) (requested q (c .counts))
+pub taken : {s t : List ℕ} (q : Ask) (c : HostCall q 0 s t) → Continues q 0 → Took s t (noted q) (requested q (c .counts))
 unfolding depositAct submitAct releaseAct groupAct bookAct resolveAct
 taken (opens n u v) c i = absurd (i refl)
 taken {s} (deposits m x) c i =
@@ -105,7 +105,7 @@ took-link {s} {qs = qs} k a =
     record { stands = g .0; inside = a .inside; is = g .1; deposits = a .deposits; payments = a .payments }
 
 -- so any call is its request, or nothing
-pub linked : {s t : List ℕ} {q : Ask} {k : ℕ} → Stands s → (c : Call q k s t) → Continues q k → Link s t (byCode k (noted q)) (byCode k (requested q (c .counts)))
+pub linked : {s t : List ℕ} {q : Ask} {k : ℕ} → Stands s → (c : HostCall q k s t) → Continues q k → Link s t (byCode k (noted q)) (byCode k (requested q (c .counts)))
 linked {q = q} {k = zero} h c i = took-link (h .kept) (taken q c i)
 linked {s} {q = q} {k = suc k} h c i =
     let e = ap (λ (x : Lent). x .tables) (refused-keeps q (lends s (c .counts) (c .answer)) (c .promise) (λ e. omega arith)) in

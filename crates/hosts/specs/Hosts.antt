@@ -12,7 +12,7 @@ use Rattle.lent.specs.Asks.{Ask, opens, deposits, submits, releases, groups, re
 use Rattle.days.specs.Days.{openingOf}
 
 -- q was asked on the tables s, with some counts and some answer lent: the code was k, and the tables became t
-pub record Call (q : Ask) (k : ℕ) (s t : List ℕ) : Type 0 where
+pub record HostCall (q : Ask) (k : ℕ) (s t : List ℕ) : Type 0 where
   pub counts : List ℕ
   pub answer : List ℕ
   pub counts′ : List ℕ
@@ -31,7 +31,7 @@ Continues resolves k = Unit {0}
 -- calls one after the other, accepted or refused, from the tables s to the tables t
 pub data Chain : List ℕ → List ℕ → Type 0 where
   end : {s : List ℕ} → Chain s s
-  next : {s t u : List ℕ} {q : Ask} {k : ℕ} → Call q k s t → Continues q k → Chain t u → Chain s u
+  next : {s t u : List ℕ} {q : Ask} {k : ℕ} → HostCall q k s t → Continues q k → Chain t u → Chain s u
 
 -- ---- what is noted of them
 
@@ -57,13 +57,13 @@ notes (next {q = q} {k = k} c i d) = byCode k (noted q) ++ notes d
 -- ---- a day
 
 -- an accepted open of n members with these balances and lines, calls, and an accepted resolution, which left the tables t
-pub record Day (n : ℕ) (balances lines t : List ℕ) : Type 0 where
+pub record HostDay (n : ℕ) (balances lines t : List ℕ) : Type 0 where
   pub before : List ℕ
   pub morning : List ℕ
   pub eve : List ℕ
-  pub first : Call (opens n balances lines) 0 before morning
+  pub first : HostCall (opens n balances lines) 0 before morning
   pub calls : Chain morning eve
-  pub last : Call resolves 0 eve t
+  pub last : HostCall resolves 0 eve t
 
 -- the house as it opened
 abbrev pub openingIn : List ℕ → List ℕ → House

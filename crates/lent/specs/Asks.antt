@@ -5,7 +5,7 @@ use lib.Count.{ones}
 use mir.Syntax.{w64}
 use mir.Val.{ofZ}
 use Rattle.sets.specs.Sets.{lowestIn}
-use Rattle.answers.specs.Verdicts.{numberOf}
+use Rattle.answers.specs.Verdicts.{verdictNumber}
 use Rattle.answers.specs.Outcome.{held, called}
 use Rattle.answers.specs.declared.Opened.{Opened}
 use Rattle.answers.specs.declared.Opened.the-variants as opening
@@ -57,12 +57,12 @@ toldGrouped (grouping.Done n x) = yes [] (n ∷ x ∷ [])
 toldGrouped (grouping.Refused r) = no r
 
 -- the verdict, how many payments, their sum, the set of members still waiting, how many those are, and the lowest
-abbrev pub partsOf : Resolution → List ℕ
-partsOf x = numberOf (x .verdict) ∷ x .payments ∷ x .sum ∷ x .waiting ∷ ones (x .waiting) ∷ lowestIn (x .waiting) ∷ []
+abbrev pub answerParts : Resolution → List ℕ
+answerParts x = verdictNumber (x .verdict) ∷ x .payments ∷ x .sum ∷ x .waiting ∷ ones (x .waiting) ∷ lowestIn (x .waiting) ∷ []
 
 -- besides, the counts
 abbrev pub toldWith : List ℕ → Resolved → Told
-toldWith k (resolving.Done x) = yes k (partsOf x)
+toldWith k (resolving.Done x) = yes k (answerParts x)
 toldWith k (resolving.Refused r) = no r
 
 abbrev pub toldResolved : Resolved × List ℕ → Told

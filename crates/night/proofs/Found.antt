@@ -21,10 +21,10 @@ use Rattle.dayfile.specs.declared.Entry.the-variants as E
 use Rattle.night.specs.declared.Stage.{Stage}
 use Rattle.night.specs.Lines.{houseDoes, memberDoes}
 use Rattle.night.specs.Stages.{isEnding}
-use Rattle.night.specs.Stands.{Stands, SmallMember}
+use Rattle.night.specs.Stands.{StageStands, SmallMember}
 
-pub stands-at : (t : Tables) {g : Stage} (k : Stage) → g ≡ k → Stands g t → Stands k t
-stands-at t {g} k e s = subst (λ (x : Stage). Stands x t) e s
+pub stands-at : (t : Tables) {g : Stage} (k : Stage) → g ≡ k → StageStands g t → StageStands k t
+stands-at t {g} k e s = subst (λ (x : Stage). StageStands x t) e s
 
 -- the same stage has lines to say
 pub still-ending : {g k : Stage} → isEnding g ≡ true → g ≡ k → isEnding k ≡ true

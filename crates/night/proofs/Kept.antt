@@ -30,12 +30,12 @@ use Rattle.night.specs.declared.Stage.{Stage}
 use Rattle.night.specs.declared.Stage.the-variants as G
 use Rattle.night.specs.Lines.{Did, quiet, stops, strays, houseDoes, given, balancesGiven, linesGiven, opensTo, openDoes, givenDoes, memberDoes, dayDoes}
 use Rattle.night.specs.Lines.{doesOf, balanceSays, endAt}
-use Rattle.night.specs.Stands.{Giving, Stands, SaidRanges}
+use Rattle.night.specs.Stands.{Giving, StageStands, SaidRanges}
 
 -- ---- what a line leaves
 
 pub record Kept (d : Did) : Type 0 where
-  pub stands : Stands (d .stage) (d .after)
+  pub stands : StageStands (d .stage) (d .after)
   pub ranges : SaidRanges (d .said)
 
 module _ (n : ℕ) (few : n < 10 ^ 7) where
@@ -44,14 +44,14 @@ module _ (n : ℕ) (few : n < 10 ^ 7) where
 
   -- ---- the opening
 
-  house-by : (count : ℕ) (t : Tables) → Stands G.House t → (b : Bool) → (leb 1 count && leb count members) ≡ b
+  house-by : (count : ℕ) (t : Tables) → StageStands G.House t → (b : Bool) → (leb 1 count && leb count members) ≡ b
       → Kept (cond b (quiet (G.Members count 0) t) (stops n R.Opening t))
   house-by count t s true e =
       let q = and-both (leb 1 count) (leb count members) e in
       record { stands = record { few = leb-true count members (q .1); next = leb-true 1 count (q .0); sized = s }; ranges = tt }
   house-by count t s false e = stops-kept R.Opening t
 
-  house-kept : (t : Tables) → Stands G.House t → (e : Entry) → Kept (houseDoes n t e)
+  house-kept : (t : Tables) → StageStands G.House t → (e : Entry) → Kept (houseDoes n t e)
   house-kept t s (opening (house count)) = house-by count t s (leb 1 count && leb count members) refl
   house-kept t s (opening (member m b l)) = stops-kept R.Line t
   house-kept t s (day d) = stops-kept R.Line t
@@ -110,7 +110,7 @@ module _ (n : ℕ) (few : n < 10 ^ 7) where
     day-kept bad = stray-kept
 
   -- ---- any line
-  pub does-kept : (g : Stage) (t : Tables) (e : Entry) → ((i : ℕ) → getD (t .counters) i 0 ≤ lastNumber) → Stands g t → Kept (doesOf n g t e)
+  pub does-kept : (g : Stage) (t : Tables) (e : Entry) → ((i : ℕ) → getD (t .counters) i 0 ≤ lastNumber) → StageStands g t → Kept (doesOf n g t e)
   does-kept G.House t e w s = house-kept t s e
   does-kept (G.Members count k) t e w s = member-kept count k t s e
   does-kept G.Day t e w s = day-kept t s w e

@@ -36,7 +36,7 @@ use Rattle.night.specs.declared.Said.the-variants.{One}
 use Rattle.night.specs.declared.Does.{Does}
 use Rattle.tables.specs.Layout.{linesAt, Tables}
 use Rattle.daylines.specs.Calls.{refusal}
-use Rattle.night.specs.Lines.{did, quiet, stops, houseDoes, given, memberDoes, openSays, openStage, balancesGiven, linesGiven, opensTo, openDoes}
+use Rattle.night.specs.Lines.{doneBy, quiet, stops, houseDoes, given, memberDoes, openSays, openStage, balancesGiven, linesGiven, opensTo, openDoes}
 
 -- any line but one of the opening stops the night,
 pub house-other : (n : ℕ) (t : Tables) (e : Entry) → OneOf (1 ∷ 2 ∷ 3 ∷ []) (tagOf the-type e) → houseDoes n t (meant e []) ≡ stops n Line t
@@ -112,5 +112,5 @@ module _ (n count : ℕ) (t : Tables) (r : Does) (o : Opened) where
 
   pub open-did : {W : Tables} (b l : List ℤ) → r ≡ record { said = One (openSays n count o); stage = openStage o }
       → b ≡ balancesGiven count t → l ≡ linesGiven count t → outcome o W ≡ heldOn (openAct count b l) t
-      → did r (W .accounts) (W .counters) (W .pays) ≡ openDoes n count t
+      → doneBy r (W .accounts) (W .counters) (W .pays) ≡ openDoes n count t
   open-did b l q eb el eo = rw (q, sym eb, sym el) (ap (opensTo n count) eo)

@@ -38,8 +38,8 @@ saidIn Nothing = []
 saidIn (One s) = s ∷ []
 
 -- the answer of the code, with the tables after it
-abbrev pub did : Does → List ℤ → List ℕ → List ℕ → Did
-did r a c p = record { said = saidIn (r .said); stage = r .stage; after = tables a c p }
+abbrev pub doneBy : Does → List ℤ → List ℕ → List ℕ → Did
+doneBy r a c p = record { said = saidIn (r .said); stage = r .stage; after = tables a c p }
 
 -- nothing is said
 abbrev pub quiet : Stage → Tables → Did
@@ -105,8 +105,8 @@ memberDoes n count k t bad = stops n Line t
 -- ---- the day: it goes on after a refusal
 
 -- a call's line: what is said of it, and the tables after it
-abbrev pub lineOf : Outcome Says → Did
-lineOf u = says (u .answer) G.Day (u .after)
+abbrev pub saysOf : Outcome Says → Did
+saysOf u = says (u .answer) G.Day (u .after)
 
 -- a stray or a bad line
 abbrev pub strays : ℕ → Tables → Did
@@ -115,7 +115,7 @@ strays n t = says (refusal n Line) G.Day t
 -- any line, once the house is open
 abbrev pub dayDoes : ℕ → Tables → Entry → Did
 dayDoes n t (opening o) = strays n t
-dayDoes n t (day d) = lineOf (callDoes n t d)
+dayDoes n t (day d) = saysOf (callDoes n t d)
 dayDoes n t end = quiet (G.Ending 0) t
 dayDoes n t bad = strays n t
 

@@ -42,9 +42,9 @@ nextStage (G.Ending k) t = endNext (t .counters) k
 nextStage G.Over t = G.Over
 
 -- and behind all of them
-abbrev pub told : Stage → Stage
-told G.House = G.House
-told (G.Members count k) = G.Members count k
-told G.Day = G.Day
-told (G.Ending k) = G.Over
-told G.Over = G.Over
+abbrev pub saidAll : Stage → Stage
+saidAll G.House = G.House
+saidAll (G.Members count k) = G.Members count k
+saidAll G.Day = G.Day
+saidAll (G.Ending k) = G.Over
+saidAll G.Over = G.Over

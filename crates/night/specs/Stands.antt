@@ -32,12 +32,12 @@ pub record Telling (k : ℕ) (t : Tables) : Type 0 where
   pub holds : Holds t
 
 -- from the day on the tables hold a state
-abbrev pub Stands : Stage → Tables → Type 0
-Stands G.House t = Sized t
-Stands (G.Members count k) t = Giving count k t
-Stands G.Day t = Holds t
-Stands (G.Ending k) t = Telling k t
-Stands G.Over t = Unit
+abbrev pub StageStands : Stage → Tables → Type 0
+StageStands G.House t = Sized t
+StageStands (G.Members count k) t = Giving count k t
+StageStands G.Day t = Holds t
+StageStands (G.Ending k) t = Telling k t
+StageStands G.Over t = Unit
 
 -- the numbers of a member line have at most 18 digits
 abbrev pub SmallMember : Entry → Type 0

@@ -13,7 +13,7 @@ ghost use Rattle.answers.specs.declared.Refusal.the-variants.{Line};
 ghost use Rattle.daylines.specs.Calls.{refusal};
 ghost use Rattle.night.specs.declared.Stage.the-variants.{Day};
 ghost use Rattle.night.specs.declared.Said.the-variants.{One};
-ghost use Rattle.night.specs.Lines.{did, dayDoes};
+ghost use Rattle.night.specs.Lines.{doneBy, dayDoes};
 
 // A stray or a bad line: the night goes on.
 fn stray(n: u64) -> Does
@@ -32,7 +32,7 @@ pub fn day_line(
     e: Entry,
 ) -> Does
     requires { ⌜ Holds (tables (now accounts) (now counters) (now pays)) × Read e (now counts) ⌝ }
-    ensures { λ r. ⌜ did r (now (accounts .exit)) (now (counters .exit)) (now (pays .exit)) ≡ dayDoes n (tables (now (accounts .entry)) (now (counters .entry)) (now (pays .entry))) (meant e (now (counts .entry))) ⌝ }
+    ensures { λ r. ⌜ doneBy r (now (accounts .exit)) (now (counters .exit)) (now (pays .exit)) ≡ dayDoes n (tables (now (accounts .entry)) (now (counters .entry)) (now (pays .entry))) (meant e (now (counts .entry))) ⌝ }
 {
     match e {
         Entry::Opening(_) => stray(n),

@@ -15,8 +15,8 @@ ghost use mathlib.Core.Path.{_≡_};
 ghost use Rattle.night.specs.declared.Said.the-variants.{Nothing, One};
 ghost use Rattle.tables.specs.Layout.{tables};
 ghost use Rattle.dayfile.specs.Reading.{meant, Read};
-ghost use Rattle.night.specs.Lines.{did, doesOf};
-ghost use Rattle.night.specs.Stands.{Stands};
+ghost use Rattle.night.specs.Lines.{doneBy, doesOf};
+ghost use Rattle.night.specs.Stands.{StageStands};
 
 // Where the night stands: before the house line; in the opening of a house of some members, of whom some were given; in the day; at the
 // end, with some of its lines said; over.
@@ -50,8 +50,8 @@ pub fn answer(
     n: u64,
     e: Entry,
 ) -> Does
-    requires { ⌜ Stands stage (tables (now accounts) (now counters) (now pays)) × Read e (now counts) ⌝ }
-    ensures { λ r. ⌜ did r (now (accounts .exit)) (now (counters .exit)) (now (pays .exit)) ≡ doesOf n stage (tables (now (accounts .entry)) (now (counters .entry)) (now (pays .entry))) (meant e (now (counts .entry))) ⌝ }
+    requires { ⌜ StageStands stage (tables (now accounts) (now counters) (now pays)) × Read e (now counts) ⌝ }
+    ensures { λ r. ⌜ doneBy r (now (accounts .exit)) (now (counters .exit)) (now (pays .exit)) ≡ doesOf n stage (tables (now (accounts .entry)) (now (counters .entry)) (now (pays .entry))) (meant e (now (counts .entry))) ⌝ }
 {
     match stage {
         Stage::House => openings::house_line(n, e),

@@ -22,7 +22,7 @@ ghost use Rattle.tables.specs.Sizes.{members, table};
 ghost use Rattle.tables.specs.Layout.{linesAt, Tables, tables};
 ghost use Rattle.dayfile.specs.Reading.{meant};
 ghost use Rattle.daylines.specs.Calls.{refusal};
-ghost use Rattle.night.specs.Lines.{did, houseDoes, openDoes, memberDoes};
+ghost use Rattle.night.specs.Lines.{doneBy, houseDoes, openDoes, memberDoes};
 ghost use Rattle.night.specs.Stands.{Giving, SmallMember};
 
 // A refusal in the opening: the night stops.
@@ -34,7 +34,7 @@ fn stop(n: u64, r: Refusal) -> Does
 
 // The first line: a house of 1 to 64 members.
 pub fn house_line(n: u64, e: Entry) -> Does
-    ensures { λ r. ⌜ ((t : Tables) → did r (t .accounts) (t .counters) (t .pays) ≡ houseDoes n t (meant e [])) ⌝ }
+    ensures { λ r. ⌜ ((t : Tables) → doneBy r (t .accounts) (t .counters) (t .pays) ≡ houseDoes n t (meant e [])) ⌝ }
 {
     let Entry::Opening(o) = e else {
         return stop(n, Refusal::Line);
@@ -62,7 +62,7 @@ pub fn member_line(
     e: Entry,
 ) -> Does
     requires { ⌜ Giving count k (tables (now accounts) (now counters) (now pays)) × SmallMember e ⌝ }
-    ensures { λ r. ⌜ did r (now (accounts .exit)) (now (counters .exit)) (now (pays .exit)) ≡ memberDoes n count k (tables (now (accounts .entry)) (now (counters .entry)) (now (pays .entry))) (meant e []) ⌝ }
+    ensures { λ r. ⌜ doneBy r (now (accounts .exit)) (now (counters .exit)) (now (pays .exit)) ≡ memberDoes n count k (tables (now (accounts .entry)) (now (counters .entry)) (now (pays .entry))) (meant e []) ⌝ }
 {
     let Entry::Opening(o) = e else {
         return stop(n, Refusal::Line);
@@ -92,7 +92,7 @@ fn give(accounts: &mut [i64], seat: usize, balance: i64, line: u64)
 // Opens the house with what was given.
 fn open(accounts: &mut [i64], counters: &mut [u32], pays: &mut [u64], count: u64, n: u64) -> Does
     requires { ⌜ (count ≤ members) × (table ≤ length (now accounts)) ⌝ }
-    ensures { λ r. ⌜ did r (now (accounts .exit)) (now (counters .exit)) (now (pays .exit)) ≡ openDoes n count (tables (now (accounts .entry)) (now (counters .entry)) (now (pays .entry))) ⌝ }
+    ensures { λ r. ⌜ doneBy r (now (accounts .exit)) (now (counters .exit)) (now (pays .exit)) ≡ openDoes n count (tables (now (accounts .entry)) (now (counters .entry)) (now (pays .entry))) ⌝ }
 {
     let m = count as usize;
     let balances = block(accounts, 0, m);

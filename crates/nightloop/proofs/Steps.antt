@@ -29,14 +29,14 @@ use Rattle.session.proofs.Theorem.{session-sheet, feed-whole}
 use Rattle.nightloop.specs.declared.Next.{Next}
 use Rattle.nightloop.specs.declared.Next.the-variants as N
 use Rattle.nightloop.specs.declared.Run.{Run}
-use Rattle.nightloop.specs.Steps.{outBytes, Memory, restIn, deskIn, Ready, isOn, runOf, takenAs, fedNext, closedNext, flushedOf, Wrote, AteTo, Ate, ClosedTo, Closed, Open, Shut, Finished, Stood}
+use Rattle.nightloop.specs.Steps.{outBytes, Memory, restIn, deskIn, CanGo, goesOnFrom, runOf, takenAs, fedNext, closedNext, flushedOf, Wrote, AteTo, Ate, ClosedTo, Closed, Open, Shut, Finished, SoFar}
 
 -- ---- before the first step
 
 abbrev first : Run
 first = runOf N.Read 0 dawn
 
-ready-first : {chunk buf counts out : List ℕ} {t : Tables} → Memory chunk buf counts t out → Ready first chunk t
+ready-first : {chunk buf counts out : List ℕ} {t : Tables} → Memory chunk buf counts t out → CanGo first chunk t
 ready-first m = record {
   fit = record { few = omega arith; room = omega arith; held = omega arith; stands = record { long = omega arith; broad = omega arith; deep = omega arith } };
   clear = refl;
@@ -45,7 +45,7 @@ ready-first m = record {
 }
 
 -- nothing was read, and nothing written
-pub stood-first : {chunk buf counts out : List ℕ} {t : Tables} → Memory chunk buf counts t out → t ≡ morning .tables → Stood N.Read first chunk buf t out
+pub stood-first : {chunk buf counts out : List ℕ} {t : Tables} → Memory chunk buf counts t out → t ≡ morning .tables → SoFar N.Read first chunk buf t out
 stood-first {chunk} {buf} {out = out} {t = t} m e = (
   record {
     read = [];
@@ -57,8 +57,8 @@ stood-first {chunk} {buf} {out = out} {t = t} m e = (
 )
 
 -- a step follows only while one is left
-pub step-left : (n : Next) (turns : ℕ) {x : Bool} → x ≡ (isOn n && ltb 0 turns) → x ≡ true → 0 < turns
-step-left n turns e f = ltb-true 0 turns (and-both (isOn n) (ltb 0 turns) (sym e ∙ f) .1)
+pub step-left : (n : Next) (turns : ℕ) {x : Bool} → x ≡ (goesOnFrom n && ltb 0 turns) → x ≡ true → 0 < turns
+step-left n turns e f = ltb-true 0 turns (and-both (goesOnFrom n) (ltb 0 turns) (sym e ∙ f) .1)
 
 -- ---- a chunk is read
 
@@ -67,7 +67,7 @@ clamped-under (pos k) n = omega arith
 clamped-under (negsuc k) n = omega arith
 
 module _ {chunk buf out : List ℕ} {t : Tables} (chunk₁ : List ℕ) {r : Run} where
-  handed-on : (n : ℕ) → n ≤ length chunk₁ → Stood N.Read r chunk buf t out → Open (runOf N.Eat n (r .state)) chunk₁ buf t out
+  handed-on : (n : ℕ) → n ≤ length chunk₁ → SoFar N.Read r chunk buf t out → Open (runOf N.Eat n (r .state)) chunk₁ buf t out
   handed-on n l (o, e) =
       let c : List ℕ = take n chunk₁ in
       record {
@@ -78,7 +78,7 @@ module _ {chunk buf out : List ℕ} {t : Tables} (chunk₁ : List ℕ) {r : Run}
         ready = record { fit = o .ready .fit; clear = o .ready .clear; eaten = omega arith; read = l };
       }
 
-  input-ends : Stood N.Read r chunk buf t out → Stood N.Close (runOf N.Close 0 (r .state)) chunk₁ buf t out
+  input-ends : SoFar N.Read r chunk buf t out → SoFar N.Close (runOf N.Close 0 (r .state)) chunk₁ buf t out
   input-ends (o, e) = (
     record {
       read = o .read;
@@ -91,11 +91,11 @@ module _ {chunk buf out : List ℕ} {t : Tables} (chunk₁ : List ℕ) {r : Run}
   )
 
   -- whatever the read answered
-  pub stood-taken : (got : ℤ) → Stood N.Read r chunk buf t out → let x = takenAs got (length chunk₁) (r .state) in Stood (x .next) x chunk₁ buf t out
+  pub stood-taken : (got : ℤ) → SoFar N.Read r chunk buf t out → let x = takenAs got (length chunk₁) (r .state) in SoFar (x .next) x chunk₁ buf t out
   stood-taken got s = go (ltb 0 (clamped got (length chunk₁))) (ltZ got (pos 0))
     where
       go : (b f : Bool) → let x = cond b (runOf N.Eat (clamped got (length chunk₁)) (r .state)) (runOf (cond f N.Failed N.Close) 0 (r .state)) in
-          Stood (x .next) x chunk₁ buf t out
+          SoFar (x .next) x chunk₁ buf t out
       go true f = handed-on (clamped got (length chunk₁)) (clamped-under got (length chunk₁)) s
       go false true = tt
       go false false = input-ends s
@@ -103,7 +103,7 @@ module _ {chunk buf out : List ℕ} {t : Tables} (chunk₁ : List ℕ) {r : Run}
 -- ---- bytes are fed, and what they say is written out
 
 ready-flushed : {q : State} {u : Tables} {m : ℕ} (n : Next) (at got : ℕ) (chunk : List ℕ) → Fit q u m → at ≤ got → got ≤ length chunk
-    → Ready (record { next = n; at = at; got = got; state = flushedOf q }) chunk u
+    → CanGo (record { next = n; at = at; got = got; state = flushedOf q }) chunk u
 ready-flushed n at got chunk f l g = record { fit = record { few = f .few; room = omega arith; held = f .held; stands = f .stands }; clear = refl; eaten = l; read = g }
 
 -- where a fed chunk leads: with room left all is eaten, or the night is over
@@ -132,7 +132,7 @@ ate-to : (n : Next) (q : State) (rest : List ℕ) → (n ≡ fedNext q) ⊎ (n �
 ate-to n q rest (inl e) a = subst (λ (k : Next). AteTo k rest (q .stage)) (sym e) a
 ate-to n q rest (inr e) a = subst (λ (k : Next). AteTo k rest (q .stage)) (sym e) tt
 
-module _ {r : Run} {chunk : List ℕ} {t u : Tables} (buf out buf₁ out₁ : List ℕ) (ok : Ready r chunk t) (long : length out ≡ outBytes) (same : length out₁ ≡ length out) where
+module _ {r : Run} {chunk : List ℕ} {t u : Tables} (buf out buf₁ out₁ : List ℕ) (ok : CanGo r chunk t) (long : length out ≡ outBytes) (same : length out₁ ≡ length out) where
   -- a chunk was fed,
   pub fed-ate : (q : Turn) {k : Next} {x : Run}
       → Stops turnOf (goesOn (length out)) (deskIn r chunk buf t out) (deskOf (drop (q .at) (take (r .got) chunk)) (q .state) u out₁ buf₁)
@@ -177,14 +177,14 @@ shut {r} {chunk} {buf} {out} {t} o = record {
   ready = o .ready;
 }
 
-pub stood-ate : {chunk buf out chunk₁ buf₁ out₁ : List ℕ} {t u : Tables} {r x : Run} → Stood N.Eat r chunk buf t out → Ate (deskIn r chunk buf t out) x chunk₁ buf₁ u out₁
-    → Stood (x .next) x chunk₁ buf₁ u out₁
+pub stood-ate : {chunk buf out chunk₁ buf₁ out₁ : List ℕ} {t u : Tables} {r x : Run} → SoFar N.Eat r chunk buf t out → Ate (deskIn r chunk buf t out) x chunk₁ buf₁ u out₁
+    → SoFar (x .next) x chunk₁ buf₁ u out₁
 stood-ate {chunk₁ = chunk₁} {buf₁ = buf₁} {out₁ = out₁} {u = u} {x = x} s a = go (x .next) (a .leads)
   where
     o : Open x chunk₁ buf₁ u out₁
     o = fed-open s a
 
-    go : (n : Next) → AteTo n (restIn x chunk₁) (x .state .stage) → Stood n x chunk₁ buf₁ u out₁
+    go : (n : Next) → AteTo n (restIn x chunk₁) (x .state .stage) → SoFar n x chunk₁ buf₁ u out₁
     go N.Read e = (o, e)
     go N.Eat e = o
     go N.Close e = absurd e
@@ -202,7 +202,7 @@ closed-to n q (inl e) = subst (λ (k : Next). ClosedTo k (q .stage)) (sym e) (go
 closed-to n q (inr e) = subst (λ (k : Next). ClosedTo k (q .stage)) (sym e) tt
 
 -- the end of the input was fed
-pub fed-closed : {r : Run} {chunk : List ℕ} {t u : Tables} (buf out out₁ : List ℕ) → Ready r chunk t → (q : State) {k : Next} {x : Run}
+pub fed-closed : {r : Run} {chunk : List ℕ} {t u : Tables} (buf out out₁ : List ℕ) → CanGo r chunk t → (q : State) {k : Next} {x : Run}
     → Stops closeTurn (closesOn (length out)) (deskOf [] (r .state) t out buf) (deskOf [] q u out₁ buf) → Fit q u (length out)
     → k ≡ closedNext q → Wrote (record { next = k; at = r .at; got = r .got; state = q }) x → Closed (deskIn r chunk buf t out) x chunk buf u out₁
 fed-closed {r} {chunk} {t} {u} buf out out₁ ok q s f e w = subst (λ (z : Run). Closed (deskIn r chunk buf t out) z chunk buf u out₁) (sym (w .is)) (record {
@@ -216,14 +216,14 @@ fed-closed {r} {chunk} {t} {u} buf out out₁ ok q s f e w = subst (λ (z : Run)
   leads = closed-to (w .next) q (comes (w .comes) e);
 })
 
-pub stood-closed : {chunk buf out chunk₁ buf₁ out₁ : List ℕ} {t u : Tables} {r x : Run} → Stood N.Close r chunk buf t out → Closed (deskIn r chunk buf t out) x chunk₁ buf₁ u out₁
-    → Stood (x .next) x chunk₁ buf₁ u out₁
+pub stood-closed : {chunk buf out chunk₁ buf₁ out₁ : List ℕ} {t u : Tables} {r x : Run} → SoFar N.Close r chunk buf t out → Closed (deskIn r chunk buf t out) x chunk₁ buf₁ u out₁
+    → SoFar (x .next) x chunk₁ buf₁ u out₁
 stood-closed {chunk₁ = chunk₁} {buf₁ = buf₁} {out₁ = out₁} {u = u} {x = x} (s, q) a = go (x .next) (a .leads)
   where
     o : Shut x chunk₁ buf₁ u out₁
     o = record { read = s .read; said = s .said ++ a .said; session = a .session (s .read) (s .said) q (s .session); ready = a .ready }
 
-    go : (n : Next) → ClosedTo n (x .state .stage) → Stood n x chunk₁ buf₁ u out₁
+    go : (n : Next) → ClosedTo n (x .state .stage) → SoFar n x chunk₁ buf₁ u out₁
     go N.Read e = absurd e
     go N.Eat e = absurd e
     go N.Close e = (o, a .rest ∙ q)

@@ -51,7 +51,7 @@ abbrev pub deskIn : Run → List ℕ → List ℕ → Tables → List ℕ → De
 deskIn r chunk buf t out = deskOf (restIn r chunk) (r .state) t out buf
 
 -- the night suits its tables, all that it said is written out, and the places lie in the chunk
-pub record Ready (r : Run) (chunk : List ℕ) (t : Tables) : Type 0 where
+pub record CanGo (r : Run) (chunk : List ℕ) (t : Tables) : Type 0 where
   pub fit : Fit (r .state) t outBytes
   pub clear : r .state .used ≡ 0
   pub eaten : r .at ≤ r .got
@@ -60,12 +60,12 @@ pub record Ready (r : Run) (chunk : List ℕ) (t : Tables) : Type 0 where
 -- ---- what comes next
 
 -- a step follows
-abbrev pub isOn : Next → Bool
-isOn N.Read = true
-isOn N.Eat = true
-isOn N.Close = true
-isOn N.Done = false
-isOn N.Failed = false
+abbrev pub goesOnFrom : Next → Bool
+goesOnFrom N.Read = true
+goesOnFrom N.Eat = true
+goesOnFrom N.Close = true
+goesOnFrom N.Done = false
+goesOnFrom N.Failed = false
 
 -- n bytes of the chunk are there, and none is eaten
 abbrev pub runOf : Next → ℕ → State → Run
@@ -112,7 +112,7 @@ AteTo N.Failed rest g = Unit {0}
 pub record Ate (d : Desk) (x : Run) (chunk buf : List ℕ) (t : Tables) (out : List ℕ) : Type 0 where
   pub said : List ℕ
   pub session : (file w later : List ℕ) → Session file w d later → Session file (w ++ said) (deskIn x chunk buf t out) later
-  pub ready : Ready x chunk t
+  pub ready : CanGo x chunk t
   pub leads : AteTo (x .next) (restIn x chunk) (x .state .stage)
 
 -- where the end of the input leads
@@ -127,7 +127,7 @@ ClosedTo N.Failed g = Unit {0}
 pub record Closed (d : Desk) (x : Run) (chunk buf : List ℕ) (t : Tables) (out : List ℕ) : Type 0 where
   pub said : List ℕ
   pub session : (file w : List ℕ) → d .rest ≡ [] → Session file w d [] → Session file (w ++ said) (deskIn x chunk buf t out) []
-  pub ready : Ready x chunk t
+  pub ready : CanGo x chunk t
   pub rest : restIn x chunk ≡ d .rest
   pub leads : ClosedTo (x .next) (x .state .stage)
 
@@ -138,14 +138,14 @@ pub record Open (r : Run) (chunk buf : List ℕ) (t : Tables) (out : List ℕ) :
   pub read : List ℕ
   pub said : List ℕ
   pub session : (later : List ℕ) → Session (read ++ later) said (deskIn r chunk buf t out) later
-  pub ready : Ready r chunk t
+  pub ready : CanGo r chunk t
 
 -- `read` was the whole input
 pub record Shut (r : Run) (chunk buf : List ℕ) (t : Tables) (out : List ℕ) : Type 0 where
   pub read : List ℕ
   pub said : List ℕ
   pub session : Session read said (deskIn r chunk buf t out) []
-  pub ready : Ready r chunk t
+  pub ready : CanGo r chunk t
 
 -- `read` was read, and its sheet was written out
 pub record Finished (r : Run) (chunk buf : List ℕ) (t : Tables) (out : List ℕ) : Type 0 where
@@ -155,9 +155,9 @@ pub record Finished (r : Run) (chunk buf : List ℕ) (t : Tables) (out : List �
   pub sheet : said ≡ sheetOf read
 
 -- where the program stands, by what comes next
-abbrev pub Stood : Next → Run → List ℕ → List ℕ → Tables → List ℕ → Type 0
-Stood N.Read r chunk buf t out = Open r chunk buf t out × (restIn r chunk ≡ [])
-Stood N.Eat r chunk buf t out = Open r chunk buf t out
-Stood N.Close r chunk buf t out = Shut r chunk buf t out × (restIn r chunk ≡ [])
-Stood N.Done r chunk buf t out = Finished r chunk buf t out
-Stood N.Failed r chunk buf t out = Unit {0}
+abbrev pub SoFar : Next → Run → List ℕ → List ℕ → Tables → List ℕ → Type 0
+SoFar N.Read r chunk buf t out = Open r chunk buf t out × (restIn r chunk ≡ [])
+SoFar N.Eat r chunk buf t out = Open r chunk buf t out
+SoFar N.Close r chunk buf t out = Shut r chunk buf t out × (restIn r chunk ≡ [])
+SoFar N.Done r chunk buf t out = Finished r chunk buf t out
+SoFar N.Failed r chunk buf t out = Unit {0}

@@ -11,7 +11,7 @@ ghost use lib.ListN.{length, take};
 ghost use Rattle.tables.specs.Layout.{tables};
 ghost use Rattle.desk.specs.Sheet.{morning};
 ghost use Rattle.nightloop.specs.declared.Next.the-variants.{Close, Failed};
-ghost use Rattle.nightloop.specs.Steps.{outBytes, Memory, Ready, isOn, takenAs, Took, fedNext, closedNext, Wrote, deskIn, Ate, Closed, Stood};
+ghost use Rattle.nightloop.specs.Steps.{outBytes, Memory, CanGo, goesOnFrom, takenAs, Took, fedNext, closedNext, Wrote, deskIn, Ate, Closed, SoFar};
 
 // The bytes that are read at once, and those of the output that is written at once.
 pub const OUT: usize = 4096;
@@ -45,7 +45,7 @@ pub fn whole(
     out: &mut [u8],
 ) -> Run
     requires { ⌜ Memory (now chunk) (now buf) (now counts) (tables (now accounts) (now counters) (now pays)) (now out) × (tables (now accounts) (now counters) (now pays) ≡ morning .tables) ⌝ }
-    ensures { λ r. ⌜ Stood (r .next) r (now (chunk .exit)) (now (buf .exit)) (tables (now (accounts .exit)) (now (counters .exit)) (now (pays .exit))) (now (out .exit)) ⌝ }
+    ensures { λ r. ⌜ SoFar (r .next) r (now (chunk .exit)) (now (buf .exit)) (tables (now (accounts .exit)) (now (counters .exit)) (now (pays .exit))) (now (out .exit)) ⌝ }
 {
     let s = session::start();
     let mut r = Run {
@@ -64,7 +64,7 @@ pub fn whole(
 
 // Whether a step follows. A proved loop has to end, and nothing says that the input does: so steps are counted.
 fn goes_on(r: Run, turns: u64) -> bool
-    ensures { λ x. ⌜ x ≡ (isOn (r .next) && ltb 0 turns) ⌝ }
+    ensures { λ x. ⌜ x ≡ (goesOnFrom (r .next) && ltb 0 turns) ⌝ }
 {
     let next = r.next;
     match next {
@@ -87,8 +87,8 @@ fn step(
     out: &mut [u8],
     r: Run,
 ) -> Run
-    requires { ⌜ Memory (now chunk) (now buf) (now counts) (tables (now accounts) (now counters) (now pays)) (now out) × Stood (r .next) r (now chunk) (now buf) (tables (now accounts) (now counters) (now pays)) (now out) ⌝ }
-    ensures { λ x. ⌜ Stood (x .next) x (now (chunk .exit)) (now (buf .exit)) (tables (now (accounts .exit)) (now (counters .exit)) (now (pays .exit))) (now (out .exit)) ⌝ }
+    requires { ⌜ Memory (now chunk) (now buf) (now counts) (tables (now accounts) (now counters) (now pays)) (now out) × SoFar (r .next) r (now chunk) (now buf) (tables (now accounts) (now counters) (now pays)) (now out) ⌝ }
+    ensures { λ x. ⌜ SoFar (x .next) x (now (chunk .exit)) (now (buf .exit)) (tables (now (accounts .exit)) (now (counters .exit)) (now (pays .exit))) (now (out .exit)) ⌝ }
 {
     let next = r.next;
     match next {
@@ -163,7 +163,7 @@ fn eat_on(
     out: &mut [u8],
     r: Run,
 ) -> Run
-    requires { ⌜ Memory (now chunk) (now buf) (now counts) (tables (now accounts) (now counters) (now pays)) (now out) × Ready r (now chunk) (tables (now accounts) (now counters) (now pays)) ⌝ }
+    requires { ⌜ Memory (now chunk) (now buf) (now counts) (tables (now accounts) (now counters) (now pays)) (now out) × CanGo r (now chunk) (tables (now accounts) (now counters) (now pays)) ⌝ }
     ensures { λ x. ⌜ Ate (deskIn r (now (chunk .entry)) (now (buf .entry)) (tables (now (accounts .entry)) (now (counters .entry)) (now (pays .entry))) (now (out .entry))) x (now (chunk .entry)) (now (buf .exit)) (tables (now (accounts .exit)) (now (counters .exit)) (now (pays .exit))) (now (out .exit)) ⌝ }
 {
     let got = r.got;
@@ -216,7 +216,7 @@ fn close_on(
     out: &mut [u8],
     r: Run,
 ) -> Run
-    requires { ⌜ Memory (now chunk) (now buf) (now counts) (tables (now accounts) (now counters) (now pays)) (now out) × Ready r (now chunk) (tables (now accounts) (now counters) (now pays)) ⌝ }
+    requires { ⌜ Memory (now chunk) (now buf) (now counts) (tables (now accounts) (now counters) (now pays)) (now out) × CanGo r (now chunk) (tables (now accounts) (now counters) (now pays)) ⌝ }
     ensures { λ x. ⌜ Closed (deskIn r (now (chunk .entry)) (now (buf .entry)) (tables (now (accounts .entry)) (now (counters .entry)) (now (pays .entry))) (now (out .entry))) x (now (chunk .entry)) (now (buf .entry)) (tables (now (accounts .exit)) (now (counters .exit)) (now (pays .exit))) (now (out .exit)) ⌝ }
 {
     let s = r.state;

@@ -35,7 +35,7 @@ use Rattle.days.proofs.Chains.{chain-carries, after-join, made-join, inside-fir
 use Rattle.days.proofs.Demand3.{ended-stands}
 use Rattle.days.proofs.Openings.{begun-stands, begun-members, day-ends-as-largest, days-end-equal}
 use Rattle.days.proofs.Sums.{day-money}
-use Rattle.nights.specs.Files.{resolution, isEnd, nightAfter, Opens, balancesIn, creditsIn, membersOf, OpenAlike, openedBy, Whole, requestsAfter, tablesAfter, madeAfter, LastResolves, closingOf, closingIn, EndsIn}
+use Rattle.nights.specs.Files.{resolveRequest, isEnd, nightAfter, Opens, balancesIn, creditsIn, membersOf, OpenAlike, openedBy, Whole, requestsAfter, tablesAfter, madeAfter, LastResolves, closingOf, closingIn, EndsIn}
 use Rattle.nights.proofs.Calls.{resolves-fine}
 use Rattle.nights.proofs.Requests.{lines-inside}
 use Rattle.nights.proofs.Runs.{Gone, run-join, run-few, lines-gone, end-tables, end-closes}
@@ -115,7 +115,7 @@ module _ {opening day : List Line} (o : Opens opening) (r : LastResolves opening
   eveTables = afterAll (r .eve) T
 
   abbrev last : Request
-  last = resolution (membersOf opening)
+  last = resolveRequest (membersOf opening)
 
   eve-made : madeAfter opening day ≡ made (r .eve) T ++ made (last ∷ []) eveTables
   eve-made = ap (λ qs. made qs T) (r .parts) ∙ made-join (r .eve) (last ∷ []) T

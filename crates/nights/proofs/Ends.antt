@@ -25,8 +25,8 @@ use Rattle.night.specs.declared.Stage.the-variants as G
 use Rattle.daylines.specs.Calls.{refusal}
 use Rattle.night.specs.Lines.{Did, quiet, stops, houseDoes, given, balancesGiven, linesGiven, opensTo, openDoes, givenDoes, memberDoes, doesOf}
 use Rattle.dayfile.specs.Entries.{mostLines, Entry}
-use Rattle.night.specs.Stages.{told, isOver}
-use Rattle.desk.specs.Sheet.{Night, finished, entryIn, after, stopped, stepOf, morning, closed}
+use Rattle.night.specs.Stages.{saidAll, isOver}
+use Rattle.desk.specs.Sheet.{Night, finished, entryIn, afterLine, stopped, stepOf, morning, closed}
 use Rattle.nights.specs.Files.{isEnd, nightAfter, Opens, requestsAfter, EndsIn, Comes, whole, refused}
 use Rattle.nights.proofs.Runs.{Gone, run-join, over-run}
 use Rattle.nights.proofs.Demands.{day-gone}
@@ -91,7 +91,7 @@ awaiting-on G.Day a = refl
 awaiting-on (G.Ending k) a = refl
 awaiting-on G.Over a = absurd (false≢true a)
 
-awaiting-told : (s : Stage) → awaiting s ≡ true → awaiting (told s) ≡ true
+awaiting-told : (s : Stage) → awaiting s ≡ true → awaiting (saidAll s) ≡ true
 awaiting-told G.House a = refl
 awaiting-told (G.Members count k) a = refl
 awaiting-told G.Day a = absurd (false≢true a)
@@ -107,16 +107,16 @@ data Turns (d e : Night) : Type 0 where
 over-ends : (d : Night) (n : ℕ) (c : Refusal) → EndsIn ((d .sheet ++ textOf (refusal n c)) ++ []) (textOf (refusal n c))
 over-ends d n c = record { earlier = d .sheet; parts = append-nil (d .sheet ++ textOf (refusal n c)) }
 
-turn-by : (d : Night) (p : Bool) → ltb (d .lines) mostLines ≡ p → (r : Did) → Leads (d .stage) r → Turns d (finished (cond p (after d r) (stopped (d .lines + 1) d)))
+turn-by : (d : Night) (p : Bool) → ltb (d .lines) mostLines ≡ p → (r : Did) → Leads (d .stage) r → Turns d (finished (cond p (afterLine d r) (stopped (d .lines + 1) d)))
 turn-by d true e r (on a) = on (awaiting-told (r .stage) a) refl
-turn-by d true e r (opens s q) = opens s (ap told q) refl (ltb-true (d .lines) mostLines e)
+turn-by d true e r (opens s q) = opens s (ap saidAll q) refl (ltb-true (d .lines) mostLines e)
 turn-by d true e r (over n c q s) = over n c (rw q) (rw (q, s, append-nil (textOf (refusal n c))) (over-ends d n c))
 turn-by d false e r l = over (d .lines + 1) R.Line refl (over-ends d (d .lines + 1) R.Line)
 
 step-turns : (d : Night) (x : Line) → awaiting (d .stage) ≡ true → Turns d (stepOf d x)
 step-turns d x a =
     let r = doesOf (d .lines + 1) (d .stage) (d .tables) (entryIn x) in
-    let s : stepOf d x ≡ finished (cond (ltb (d .lines) mostLines) (after d r) (stopped (d .lines + 1) d)) = rw (awaiting-on (d .stage) a) in
+    let s : stepOf d x ≡ finished (cond (ltb (d .lines) mostLines) (afterLine d r) (stopped (d .lines + 1) d)) = rw (awaiting-on (d .stage) a) in
     subst (Turns d) (sym s) (turn-by d (ltb (d .lines) mostLines) refl r (does-leads (d .lines + 1) (d .stage) (d .tables) (entryIn x) a))
 
 -- ---- a file, by the lines that are left of it

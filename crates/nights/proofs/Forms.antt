@@ -23,8 +23,8 @@ use Rattle.dayfile.specs.Chunks.{runOf}
 use Rattle.night.specs.declared.Stage.{Stage}
 use Rattle.night.specs.declared.Stage.the-variants as G
 use Rattle.night.specs.Lines.{Did, quiet, stops, houseDoes, given, balancesGiven, linesGiven, openStage, openDoes, givenDoes, memberDoes, dayDoes, doesOf}
-use Rattle.night.specs.Stages.{isOver, told}
-use Rattle.desk.specs.Sheet.{Night, after, stopped, entryIn, stepOf, morning}
+use Rattle.night.specs.Stages.{isOver, saidAll}
+use Rattle.desk.specs.Sheet.{Night, afterLine, stopped, entryIn, stepOf, morning}
 use Rattle.nights.specs.Files.{nightAfter, Opens}
 use Rattle.nights.specs.Forms.{entriesIn, memberLines, Opening}
 use Rattle.nights.proofs.Runs.{run-join}
@@ -66,15 +66,15 @@ module _ {count k : ℕ} {es : List Entry} (b : Begins count k es) (x : ℤ) (y 
 
 -- ---- a line
 
-open-formed : (o : Opened) (es : List Entry) → Formed (told (openStage o)) es
+open-formed : (o : Opened) (es : List Entry) → Formed (saidAll (openStage o)) es
 open-formed (opening.Done s) es = tt
 open-formed (opening.Refused r) es = tt
 
-house-formed : (n : ℕ) (t : Tables) (es : List Entry) → es ≡ [] → (e : Entry) → Formed (told (houseDoes n t e .stage)) (es ++ (e ∷ []))
+house-formed : (n : ℕ) (t : Tables) (es : List Entry) → es ≡ [] → (e : Entry) → Formed (saidAll (houseDoes n t e .stage)) (es ++ (e ∷ []))
 house-formed n t es q (E.opening (E.house count)) = go (leb 1 count && leb count members) refl
   where
     go : (p : Bool) → (leb 1 count && leb count members) ≡ p
-        → Formed (told (cond p (quiet (G.Members count 0) t) (stops n R.Opening t) .stage)) (es ++ (E.opening (E.house count) ∷ []))
+        → Formed (saidAll (cond p (quiet (G.Members count 0) t) (stops n R.Opening t) .stage)) (es ++ (E.opening (E.house count) ∷ []))
     go true e = record {
       given = [];
       lines = ap (λ (l : List Entry). l ++ (E.opening (E.house count) ∷ [])) q;
@@ -89,37 +89,37 @@ house-formed n t es q E.bad = tt
 
 module _ (n count k : ℕ) (t : Tables) {es : List Entry} (b : Begins count k es) where
   given-formed : (x : ℤ) (y : ℕ) (v : Tables) (p : Bool) → ltb (k + 1) count ≡ p
-      → Formed (told (cond p (quiet (G.Members count (k + 1)) v) (openDoes n count v) .stage)) (es ++ (E.opening (E.member (k + 1) x y) ∷ []))
+      → Formed (saidAll (cond p (quiet (G.Members count (k + 1)) v) (openDoes n count v) .stage)) (es ++ (E.opening (E.member (k + 1) x y) ∷ []))
   given-formed x y v true e = record { given = b .given ++ ((x, y) ∷ []); lines = lines-more b x y; many = many-more b x y; more = ltb-true (k + 1) count e }
   given-formed x y v false e = open-formed (held (openAct count (balancesGiven count v) (linesGiven count v)) v .answer) (es ++ (E.opening (E.member (k + 1) x y) ∷ []))
 
-  member-formed : (e : Entry) → Formed (told (memberDoes n count k t e .stage)) (es ++ (e ∷ []))
+  member-formed : (e : Entry) → Formed (saidAll (memberDoes n count k t e .stage)) (es ++ (e ∷ []))
   member-formed (E.opening (E.house m)) = tt
   member-formed (E.opening (E.member m x y)) = go (eqb m (k + 1)) refl
     where
-      go : (p : Bool) → eqb m (k + 1) ≡ p → Formed (told (cond p (givenDoes n count k (given t k x y)) (stops n R.Line t) .stage)) (es ++ (E.opening (E.member m x y) ∷ []))
+      go : (p : Bool) → eqb m (k + 1) ≡ p → Formed (saidAll (cond p (givenDoes n count k (given t k x y)) (stops n R.Line t) .stage)) (es ++ (E.opening (E.member m x y) ∷ []))
       go true e =
-          subst (λ (i : ℕ). Formed (told (givenDoes n count k (given t k x y) .stage)) (es ++ (E.opening (E.member i x y) ∷ []))) (sym (eqb-true m (k + 1) e))
+          subst (λ (i : ℕ). Formed (saidAll (givenDoes n count k (given t k x y) .stage)) (es ++ (E.opening (E.member i x y) ∷ []))) (sym (eqb-true m (k + 1) e))
           (given-formed x y (given t k x y) (ltb (k + 1) count) refl)
       go false e = tt
   member-formed (E.day d) = tt
   member-formed E.end = tt
   member-formed E.bad = tt
 
-day-formed : (n : ℕ) (t : Tables) (e : Entry) (es : List Entry) → Formed (told (dayDoes n t e .stage)) es
+day-formed : (n : ℕ) (t : Tables) (e : Entry) (es : List Entry) → Formed (saidAll (dayDoes n t e .stage)) es
 day-formed n t (E.opening o) es = tt
 day-formed n t (E.day d) es = tt
 day-formed n t E.end es = tt
 day-formed n t E.bad es = tt
 
-does-formed : (n : ℕ) (s : Stage) (t : Tables) (e : Entry) (es : List Entry) → Formed s es → Formed (told (doesOf n s t e .stage)) (es ++ (e ∷ []))
+does-formed : (n : ℕ) (s : Stage) (t : Tables) (e : Entry) (es : List Entry) → Formed s es → Formed (saidAll (doesOf n s t e .stage)) (es ++ (e ∷ []))
 does-formed n G.House t e es f = house-formed n t es f e
 does-formed n (G.Members count k) t e es f = member-formed n count k t f e
 does-formed n G.Day t e es f = day-formed n t e (es ++ (e ∷ []))
 does-formed n (G.Ending k) t e es f = tt
 does-formed n G.Over t e es f = tt
 
-over-formed : (s : Stage) → isOver s ≡ true → (es : List Entry) → Formed (told s) es
+over-formed : (s : Stage) → isOver s ≡ true → (es : List Entry) → Formed (saidAll s) es
 over-formed G.House e es = absurd (false≢true e)
 over-formed (G.Members count k) e es = absurd (false≢true e)
 over-formed G.Day e es = tt
@@ -132,7 +132,7 @@ step-formed d x es f = go (isOver (d .stage)) refl (ltb (d .lines) mostLines)
     r : Did
     r = doesOf (d .lines + 1) (d .stage) (d .tables) (entryIn x)
 
-    go : (o : Bool) → isOver (d .stage) ≡ o → (p : Bool) → Formed (told (cond o d (cond p (after d r) (stopped (d .lines + 1) d)) .stage)) (es ++ (entryIn x ∷ []))
+    go : (o : Bool) → isOver (d .stage) ≡ o → (p : Bool) → Formed (saidAll (cond o d (cond p (afterLine d r) (stopped (d .lines + 1) d)) .stage)) (es ++ (entryIn x ∷ []))
     go true e p = over-formed (d .stage) e (es ++ (entryIn x ∷ []))
     go false e true = does-formed (d .lines + 1) (d .stage) (d .tables) (entryIn x) es f
     go false e false = tt
@@ -156,15 +156,15 @@ record LastLine (count k : ℕ) (e : Entry) : Type 0 where
   pub last : k + 1 ≡ count
 
 module _ (n count k : ℕ) (t : Tables) (more : k < count) where
-  given-last : (v : Tables) (p : Bool) → ltb (k + 1) count ≡ p → told (cond p (quiet (G.Members count (k + 1)) v) (openDoes n count v) .stage) ≡ G.Day → k + 1 ≡ count
+  given-last : (v : Tables) (p : Bool) → ltb (k + 1) count ≡ p → saidAll (cond p (quiet (G.Members count (k + 1)) v) (openDoes n count v) .stage) ≡ G.Day → k + 1 ≡ count
   given-last v true e q = let z : _≡_ {A = ℕ} 0 1 = cc in absurd (omega arith)
   given-last v false e q = omega (arith, ltb-false (k + 1) count e)
 
-  member-last : (e : Entry) → told (memberDoes n count k t e .stage) ≡ G.Day → LastLine count k e
+  member-last : (e : Entry) → saidAll (memberDoes n count k t e .stage) ≡ G.Day → LastLine count k e
   member-last (E.opening (E.house m)) q = let z : _≡_ {A = ℕ} 0 1 = cc in absurd (omega arith)
   member-last (E.opening (E.member m x y)) q = go (eqb m (k + 1)) refl q
     where
-      go : (p : Bool) → eqb m (k + 1) ≡ p → told (cond p (givenDoes n count k (given t k x y)) (stops n R.Line t) .stage) ≡ G.Day → LastLine count k (E.opening (E.member m x y))
+      go : (p : Bool) → eqb m (k + 1) ≡ p → saidAll (cond p (givenDoes n count k (given t k x y)) (stops n R.Line t) .stage) ≡ G.Day → LastLine count k (E.opening (E.member m x y))
       go true e h = record {
         balance = x;
         line = y;
@@ -185,7 +185,7 @@ step-last d x count k m e q = go (ltb (d .lines) mostLines) (sym (ap (λ (s : St
     r : Did
     r = memberDoes (d .lines + 1) count k (d .tables) (entryIn x)
 
-    go : (p : Bool) → told (cond p (after (nightAt (G.Members count k)) r) (stopped (d .lines + 1) (nightAt (G.Members count k))) .stage) ≡ G.Day → LastLine count k (entryIn x)
+    go : (p : Bool) → saidAll (cond p (afterLine (nightAt (G.Members count k)) r) (stopped (d .lines + 1) (nightAt (G.Members count k))) .stage) ≡ G.Day → LastLine count k (entryIn x)
     go true h = member-last (d .lines + 1) count k (d .tables) m (entryIn x) h
     go false h = let z : _≡_ {A = ℕ} 0 1 = cc in absurd (omega arith)
 

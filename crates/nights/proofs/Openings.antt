@@ -30,10 +30,10 @@ use Rattle.night.specs.declared.Stage.the-variants as G
 use Rattle.night.specs.Lines.{Did, quiet, stops, houseDoes, given, openStage, balancesGiven, linesGiven, openDoes, givenDoes, memberDoes, dayDoes, doesOf}
 use Rattle.night.specs.Stands.{Sized, Giving}
 use Rattle.dayfile.specs.Entries.{mostLines, Entry}
-use Rattle.night.specs.Stages.{told, isOver}
-use Rattle.desk.specs.Sheet.{Night, entryIn, after, stopped, stepOf, morning}
+use Rattle.night.specs.Stages.{saidAll, isOver}
+use Rattle.desk.specs.Sheet.{Night, entryIn, afterLine, stopped, stepOf, morning}
 use Rattle.days.specs.Days.{Begun}
-use Rattle.nights.specs.Files.{balanceOf, creditOf, balancesIn, creditsIn, membersOf, nightAfter, Opens, openedBy}
+use Rattle.nights.specs.Files.{balanceGiven, creditOf, balancesIn, creditsIn, membersOf, nightAfter, Opens, openedBy}
 use Rattle.nights.proofs.Runs.{run-join}
 
 -- ---- what was given so far
@@ -58,7 +58,7 @@ Gave G.Over t b l = Unit {0}
 
 -- after a line that did r
 abbrev GaveBy : Did → List ℤ → List ℤ → Type 0
-GaveBy r b l = Gave (told (r .stage)) (r .after) b l
+GaveBy r b l = Gave (saidAll (r .stage)) (r .after) b l
 
 -- one member more
 module _ {count k : ℕ} {t : Tables} {b l : List ℤ} (g : Gives count k t b l) (x : ℤ) (y : ℕ) where
@@ -82,11 +82,11 @@ module _ {count k : ℕ} {t : Tables} {b l : List ℤ} (g : Gives count k t b l)
 
 -- ---- a line
 
-open-gave : (o : Opened) (t : Tables) (b l : List ℤ) → Gave (told (openStage o)) t b l
+open-gave : (o : Opened) (t : Tables) (b l : List ℤ) → Gave (saidAll (openStage o)) t b l
 open-gave (opening.Done s) t b l = tt
 open-gave (opening.Refused r) t b l = tt
 
-house-gave : (n : ℕ) (t : Tables) (b l : List ℤ) → None t b l → (e : Entry) → GaveBy (houseDoes n t e) (b ++ balanceOf e) (l ++ creditOf e)
+house-gave : (n : ℕ) (t : Tables) (b l : List ℤ) → None t b l → (e : Entry) → GaveBy (houseDoes n t e) (b ++ balanceGiven e) (l ++ creditOf e)
 house-gave n t b l g (E.opening (E.house count)) = go (leb 1 count && leb count members) refl
   where
     go : (p : Bool) → (leb 1 count && leb count members) ≡ p → GaveBy (cond p (quiet (G.Members count 0) t) (stops n R.Opening t)) (b ++ []) (l ++ [])
@@ -116,7 +116,7 @@ module _ (n count k : ℕ) (t : Tables) {b l : List ℤ} (g : Gives count k t b 
   member-by x y true = given-gave x y (ltb (k + 1) count) refl
   member-by x y false = tt
 
-  member-gave : (e : Entry) → GaveBy (memberDoes n count k t e) (b ++ balanceOf e) (l ++ creditOf e)
+  member-gave : (e : Entry) → GaveBy (memberDoes n count k t e) (b ++ balanceGiven e) (l ++ creditOf e)
   member-gave (E.opening (E.house m)) = tt
   member-gave (E.opening (E.member m x y)) = member-by x y (eqb m (k + 1))
   member-gave (E.day d) = tt
@@ -129,14 +129,14 @@ day-gave n t (E.day d) b l = tt
 day-gave n t E.end b l = tt
 day-gave n t E.bad b l = tt
 
-does-gave : (n : ℕ) (s : Stage) (t : Tables) (e : Entry) (b l : List ℤ) → Gave s t b l → GaveBy (doesOf n s t e) (b ++ balanceOf e) (l ++ creditOf e)
+does-gave : (n : ℕ) (s : Stage) (t : Tables) (e : Entry) (b l : List ℤ) → Gave s t b l → GaveBy (doesOf n s t e) (b ++ balanceGiven e) (l ++ creditOf e)
 does-gave n G.House t e b l g = house-gave n t b l g e
 does-gave n (G.Members count k) t e b l g = member-gave n count k t g e
-does-gave n G.Day t e b l g = day-gave n t e (b ++ balanceOf e) (l ++ creditOf e)
+does-gave n G.Day t e b l g = day-gave n t e (b ++ balanceGiven e) (l ++ creditOf e)
 does-gave n (G.Ending k) t e b l g = tt
 does-gave n G.Over t e b l g = tt
 
-over-gave : (s : Stage) → isOver s ≡ true → (t : Tables) (b l : List ℤ) → Gave (told s) t b l
+over-gave : (s : Stage) → isOver s ≡ true → (t : Tables) (b l : List ℤ) → Gave (saidAll s) t b l
 over-gave G.House e t b l = absurd (false≢true e)
 over-gave (G.Members count k) e t b l = absurd (false≢true e)
 over-gave G.Day e t b l = tt
@@ -144,22 +144,22 @@ over-gave (G.Ending k) e t b l = tt
 over-gave G.Over e t b l = tt
 
 step-gave : (d : Night) (x : Line) (b l : List ℤ) → Gave (d .stage) (d .tables) b l
-    → Gave (stepOf d x .stage) (stepOf d x .tables) (b ++ balanceOf (entryIn x)) (l ++ creditOf (entryIn x))
+    → Gave (stepOf d x .stage) (stepOf d x .tables) (b ++ balanceGiven (entryIn x)) (l ++ creditOf (entryIn x))
 step-gave d x b l g = go (isOver (d .stage)) refl (ltb (d .lines) mostLines)
   where
     r : Did
     r = doesOf (d .lines + 1) (d .stage) (d .tables) (entryIn x)
 
-    go : (o : Bool) → isOver (d .stage) ≡ o → (p : Bool) → let e = cond o d (cond p (after d r) (stopped (d .lines + 1) d)) in
-        Gave (told (e .stage)) (e .tables) (b ++ balanceOf (entryIn x)) (l ++ creditOf (entryIn x))
-    go true e p = over-gave (d .stage) e (d .tables) (b ++ balanceOf (entryIn x)) (l ++ creditOf (entryIn x))
+    go : (o : Bool) → isOver (d .stage) ≡ o → (p : Bool) → let e = cond o d (cond p (afterLine d r) (stopped (d .lines + 1) d)) in
+        Gave (saidAll (e .stage)) (e .tables) (b ++ balanceGiven (entryIn x)) (l ++ creditOf (entryIn x))
+    go true e p = over-gave (d .stage) e (d .tables) (b ++ balanceGiven (entryIn x)) (l ++ creditOf (entryIn x))
     go false e true = does-gave (d .lines + 1) (d .stage) (d .tables) (entryIn x) b l g
     go false e false = tt
 
 -- ---- the last line of the opening
 
 module _ (n count k : ℕ) (t : Tables) {b l : List ℤ} (g : Gives count k t b l) where
-  open-begun : (x : ℤ) (y : ℕ) → k + 1 ≡ count → told (openDoes n count (given t k x y) .stage) ≡ G.Day
+  open-begun : (x : ℤ) (y : ℕ) → k + 1 ≡ count → saidAll (openDoes n count (given t k x y) .stage) ≡ G.Day
       → Begun count (b ++ (x ∷ [])) (l ++ (pos y ∷ [])) (openDoes n count (given t k x y) .after)
   open-begun x y c q = go (u .answer) refl q
     where
@@ -175,7 +175,7 @@ module _ (n count k : ℕ) (t : Tables) {b l : List ℤ} (g : Gives count k t b 
       el : linesGiven count v ≡ l ++ (pos y ∷ [])
       el = ap (λ i. take i (drop linesAt (v .accounts))) (sym c) ∙ given-lines g x y
 
-      go : (o : Opened) → u .answer ≡ o → told (openStage o) ≡ G.Day → Begun count (b ++ (x ∷ [])) (l ++ (pos y ∷ [])) (u .after)
+      go : (o : Opened) → u .answer ≡ o → saidAll (openStage o) ≡ G.Day → Begun count (b ++ (x ∷ [])) (l ++ (pos y ∷ [])) (u .after)
       go (opening.Done s) e q = record {
         before = v;
         sum = s;
@@ -186,16 +186,16 @@ module _ (n count k : ℕ) (t : Tables) {b l : List ℤ} (g : Gives count k t b 
       go (opening.Refused r) e q = let z : _≡_ {A = ℕ} 0 1 = cc in absurd (omega arith)
 
   given-begun : (x : ℤ) (y : ℕ) (p : Bool) → ltb (k + 1) count ≡ p → let r = cond p (quiet (G.Members count (k + 1)) (given t k x y)) (openDoes n count (given t k x y)) in
-      told (r .stage) ≡ G.Day → Begun count (b ++ (x ∷ [])) (l ++ (pos y ∷ [])) (r .after)
+      saidAll (r .stage) ≡ G.Day → Begun count (b ++ (x ∷ [])) (l ++ (pos y ∷ [])) (r .after)
   given-begun x y true e q = let z : _≡_ {A = ℕ} 0 1 = cc in absurd (omega arith)
   given-begun x y false e q = open-begun x y (omega (arith, ltb-false (k + 1) count e, g .giving .next)) q
 
   by-begun : (x : ℤ) (y : ℕ) (p : Bool) → let r = cond p (givenDoes n count k (given t k x y)) (stops n R.Line t) in
-      told (r .stage) ≡ G.Day → Begun count (b ++ (x ∷ [])) (l ++ (pos y ∷ [])) (r .after)
+      saidAll (r .stage) ≡ G.Day → Begun count (b ++ (x ∷ [])) (l ++ (pos y ∷ [])) (r .after)
   by-begun x y true q = given-begun x y (ltb (k + 1) count) refl q
   by-begun x y false q = let z : _≡_ {A = ℕ} 0 1 = cc in absurd (omega arith)
 
-  member-begun : (e : Entry) → told (memberDoes n count k t e .stage) ≡ G.Day → Begun count (b ++ balanceOf e) (l ++ creditOf e) (memberDoes n count k t e .after)
+  member-begun : (e : Entry) → saidAll (memberDoes n count k t e .stage) ≡ G.Day → Begun count (b ++ balanceGiven e) (l ++ creditOf e) (memberDoes n count k t e .after)
   member-begun (E.opening (E.house m)) q = let z : _≡_ {A = ℕ} 0 1 = cc in absurd (omega arith)
   member-begun (E.opening (E.member m x y)) q = by-begun x y (eqb m (k + 1)) q
   member-begun (E.day d) q = let z : _≡_ {A = ℕ} 0 1 = cc in absurd (omega arith)
@@ -207,10 +207,10 @@ abbrev nightAt : Night → Stage → Night
 nightAt d s = record { lines = d .lines; stage = s; tables = d .tables; sheet = d .sheet }
 
 step-begun : (d : Night) (x : Line) {count k : ℕ} {b l : List ℤ} → d .stage ≡ G.Members count k → Gives count k (d .tables) b l → stepOf d x .stage ≡ G.Day
-    → Begun count (b ++ balanceOf (entryIn x)) (l ++ creditOf (entryIn x)) (stepOf d x .tables)
+    → Begun count (b ++ balanceGiven (entryIn x)) (l ++ creditOf (entryIn x)) (stepOf d x .tables)
 step-begun d x {count} {k} {b} {l} e g q =
     let s : stepOf d x ≡ stepOf (nightAt d (G.Members count k)) x = ap (λ i. stepOf (nightAt d i) x) e in
-    subst (λ (v : Night). Begun count (b ++ balanceOf (entryIn x)) (l ++ creditOf (entryIn x)) (v .tables)) (sym s)
+    subst (λ (v : Night). Begun count (b ++ balanceGiven (entryIn x)) (l ++ creditOf (entryIn x)) (v .tables)) (sym s)
     (go (ltb (d .lines) mostLines) (sym (ap (λ (v : Night). v .stage) s) ∙ q))
   where
     f : Night
@@ -219,8 +219,8 @@ step-begun d x {count} {k} {b} {l} e g q =
     r : Did
     r = memberDoes (d .lines + 1) count k (d .tables) (entryIn x)
 
-    go : (p : Bool) → let e = cond p (after f r) (stopped (d .lines + 1) f) in
-        told (e .stage) ≡ G.Day → Begun count (b ++ balanceOf (entryIn x)) (l ++ creditOf (entryIn x)) (e .tables)
+    go : (p : Bool) → let e = cond p (afterLine f r) (stopped (d .lines + 1) f) in
+        saidAll (e .stage) ≡ G.Day → Begun count (b ++ balanceGiven (entryIn x)) (l ++ creditOf (entryIn x)) (e .tables)
     go true h = member-begun (d .lines + 1) count k (d .tables) g (entryIn x) h
     go false h = let z : _≡_ {A = ℕ} 0 1 = cc in absurd (omega arith)
 
@@ -231,12 +231,12 @@ run-gave : (d : Night) (ls : List Line) (b l : List ℤ) → Gave (d .stage) (d 
 unfolding runOf
 run-gave d [] b l g = rw (append-nil b, append-nil l) g
 run-gave d (x ∷ ls) b l g =
-    rw (sym (append-assoc b (balanceOf (entryIn x)) (balancesIn ls)), sym (append-assoc l (creditOf (entryIn x)) (creditsIn ls)))
-    (run-gave (stepOf d x) ls (b ++ balanceOf (entryIn x)) (l ++ creditOf (entryIn x)) (step-gave d x b l g))
+    rw (sym (append-assoc b (balanceGiven (entryIn x)) (balancesIn ls)), sym (append-assoc l (creditOf (entryIn x)) (creditsIn ls)))
+    (run-gave (stepOf d x) ls (b ++ balanceGiven (entryIn x)) (l ++ creditOf (entryIn x)) (step-gave d x b l g))
 
-balances-join : (ls : List Line) (x : Line) → balancesIn (ls ++ (x ∷ [])) ≡ balancesIn ls ++ balanceOf (entryIn x)
-balances-join [] x = append-nil (balanceOf (entryIn x))
-balances-join (y ∷ ls) x = ap (λ (r : List ℤ). balanceOf (entryIn y) ++ r) (balances-join ls x) ∙ sym (append-assoc (balanceOf (entryIn y)) (balancesIn ls) (balanceOf (entryIn x)))
+balances-join : (ls : List Line) (x : Line) → balancesIn (ls ++ (x ∷ [])) ≡ balancesIn ls ++ balanceGiven (entryIn x)
+balances-join [] x = append-nil (balanceGiven (entryIn x))
+balances-join (y ∷ ls) x = ap (λ (r : List ℤ). balanceGiven (entryIn y) ++ r) (balances-join ls x) ∙ sym (append-assoc (balanceGiven (entryIn y)) (balancesIn ls) (balanceGiven (entryIn x)))
 
 credits-join : (ls : List Line) (x : Line) → creditsIn (ls ++ (x ∷ [])) ≡ creditsIn ls ++ creditOf (entryIn x)
 credits-join [] x = append-nil (creditOf (entryIn x))
@@ -270,10 +270,10 @@ lines-begun {ls} o =
     let s : nightAfter ls ≡ stepOf d (o .last) = ap nightAfter (o .parts) ∙ run-join morning (o .earlier) (o .last ∷ []) in
     let g : Gives (o .count) (o .given) (d .tables) (balancesIn (o .earlier)) (creditsIn (o .earlier)) =
     subst (λ (v : Stage). Gave v (d .tables) (balancesIn (o .earlier)) (creditsIn (o .earlier))) (o .awaits) (run-gave morning (o .earlier) [] [] morning-gave) in
-    let b : Begun (o .count) (balancesIn (o .earlier) ++ balanceOf (entryIn (o .last))) (creditsIn (o .earlier) ++ creditOf (entryIn (o .last))) (stepOf d (o .last) .tables) =
+    let b : Begun (o .count) (balancesIn (o .earlier) ++ balanceGiven (entryIn (o .last))) (creditsIn (o .earlier) ++ creditOf (entryIn (o .last))) (stepOf d (o .last) .tables) =
     step-begun d (o .last) (o .awaits) g (sym (ap (λ (v : Night). v .stage) s) ∙ o .opens) in
     rw (ap balancesIn (o .parts) ∙ balances-join (o .earlier) (o .last), ap creditsIn (o .parts) ∙ credits-join (o .earlier) (o .last))
-    (subst (λ (v : Night). Begun (o .count) (balancesIn (o .earlier) ++ balanceOf (entryIn (o .last))) (creditsIn (o .earlier) ++ creditOf (entryIn (o .last))) (v .tables)) (sym s) b)
+    (subst (λ (v : Night). Begun (o .count) (balancesIn (o .earlier) ++ balanceGiven (entryIn (o .last))) (creditsIn (o .earlier) ++ creditOf (entryIn (o .last))) (v .tables)) (sym s) b)
 
 -- the lines that open a house are an accepted open of the members, balances and lines that they give
 pub opens-begun : {ls : List Line} → Opens ls → Begun (membersOf ls) (balancesIn ls) (creditsIn ls) (openedBy ls)

@@ -32,7 +32,7 @@ use Rattle.dayfile.specs.Lines.{Line, linesOf}
 use Rattle.dayfile.specs.Chunks.{runOf}
 use Rattle.night.specs.declared.Stage.{Stage}
 use Rattle.night.specs.declared.Stage.the-variants as G
-use Rattle.daylines.specs.Calls.{refusal, lineOf, paySays, depositSays, releaseSays, groupSays, callDoes}
+use Rattle.daylines.specs.Calls.{refusal, saying, paySays, depositSays, releaseSays, groupSays, callDoes}
 use Rattle.night.specs.Lines.{says, dayDoes}
 use Rattle.night.specs.Stages.{restSays}
 use Rattle.desk.specs.Sheet.{Night, textsOf, entryIn, stepOf, morning, closed, sheetOf}
@@ -41,7 +41,7 @@ use Rattle.days.proofs.Joins.{deposits-join, payments-join}
 use Rattle.days.proofs.Chains.{chain-carries, made-join}
 use Rattle.days.proofs.Openings.{begun-stands, begun-members}
 use Rattle.nights.specs.Files.{requestOf, requestsOf, requestsIn, isEnd, nightAfter, membersOf, Whole, madeAfter, tablesAfter, closingOf}
-use Rattle.nights.specs.Printed.{judgedCall, judgedLine, printedAs, saysOf, saysIn, ifQueued, ifDeposited, readCall, readLine, readOff, Reads}
+use Rattle.nights.specs.Printed.{judgedCall, judgedLine, printedAs, printedBy, saysIn, ifQueued, ifDeposited, readCall, readLine, readOff, Reads}
 use Rattle.nights.proofs.Calls.{day-stays}
 use Rattle.nights.proofs.Requests.{line-inside}
 use Rattle.nights.proofs.Runs.{run-join, run-few, step-day, line-gone, end-closes}
@@ -52,26 +52,26 @@ use Rattle.nights.proofs.Demands.{day-gone}
 
 module _ {t : Tables} (h : Holds t) (i : ℕ) where
   -- a call's line, by how it was judged
-  judged-line : {A : Type 0} (say : A → Says) (k : Act A) → lineOf say (held k t) ≡ lineOf say (decided k t (judgement k t))
+  judged-line : {A : Type 0} (say : A → Says) (k : Act A) → saying say (held k t) ≡ saying say (decided k t (judgement k t))
   unfolding held
-  judged-line say k = ap (λ (j : Judged). lineOf say (decided k t j)) (sym (judgement-held k t h))
+  judged-line say k = ap (λ (j : Judged). saying say (decided k t j)) (sym (judgement-held k t h))
 
-  pay-says : (kind m k q x : ℕ) (j : Judged) → lineOf (paySays i m k) (decided (submitAct m k q x) t j) .answer ≡ printedAs i t (E.pay kind m k q x) j
+  pay-says : (kind m k q x : ℕ) (j : Judged) → saying (paySays i m k) (decided (submitAct m k q x) t j) .answer ≡ printedAs i t (E.pay kind m k q x) j
   unfolding submitAct
   pay-says kind m k q x Fine = refl
   pay-says kind m k q x (Bad r) = refl
 
-  deposit-says : (m x : ℕ) (j : Judged) → lineOf (depositSays i m) (decided (depositAct m x) t j) .answer ≡ printedAs i t (E.deposit m x) j
+  deposit-says : (m x : ℕ) (j : Judged) → saying (depositSays i m) (decided (depositAct m x) t j) .answer ≡ printedAs i t (E.deposit m x) j
   unfolding depositAct
   deposit-says m x Fine = refl
   deposit-says m x (Bad r) = refl
 
-  release-says : (m : ℕ) (j : Judged) → lineOf (releaseSays i) (decided (releaseAct m) t j) .answer ≡ printedAs i t (E.release m) j
+  release-says : (m : ℕ) (j : Judged) → saying (releaseSays i) (decided (releaseAct m) t j) .answer ≡ printedAs i t (E.release m) j
   unfolding releaseAct
   release-says m Fine = refl
   release-says m (Bad r) = refl
 
-  group-says : (k : List ℕ) (j : Judged) → lineOf (groupSays i) (decided (groupAct k) t j) .answer ≡ printedAs i t (E.group k) j
+  group-says : (k : List ℕ) (j : Judged) → saying (groupSays i) (decided (groupAct k) t j) .answer ≡ printedAs i t (E.group k) j
   unfolding groupAct bookAct
   group-says k Fine = refl
   group-says k (Bad r) = refl
@@ -88,8 +88,8 @@ module _ {t : Tables} (h : Holds t) (i : ℕ) where
   call-prints E.resolve = refl
 
   -- a refused line prints its code, and changes nothing
-  refused-does : {A : Type 0} (say : A → Says) (k : Act A) {r : Refusal} → judgement k t ≡ Bad r → lineOf say (held k t) ≡ lineOf say (outcome (k .refuse r) t)
-  refused-does say k e = judged-line say k ∙ ap (λ (j : Judged). lineOf say (decided k t j)) e
+  refused-does : {A : Type 0} (say : A → Says) (k : Act A) {r : Refusal} → judgement k t ≡ Bad r → saying say (held k t) ≡ saying say (outcome (k .refuse r) t)
+  refused-does say k e = judged-line say k ∙ ap (λ (j : Judged). saying say (decided k t j)) e
 
   call-refused : (d : DayLine) {r : Refusal} → judgedCall t d ≡ Bad r → callDoes i t d ≡ outcome (refusal i r) t
   unfolding submitAct depositAct releaseAct groupAct bookAct
@@ -153,7 +153,7 @@ texts-join [] ts = refl
 texts-join (s ∷ ss) ts = ap (λ (l : List ℕ). textOf s ++ l) (texts-join ss ts) ∙ sym (append-assoc (textOf s) (textsOf ss) (textsOf ts))
 
 -- what a line prints comes behind the sheet so far
-line-sheet : (d : Night) (l : Line) → d .stage ≡ G.Day → d .lines < mostLines → isEnd (entryIn l) ≡ false → stepOf d l .sheet ≡ d .sheet ++ textsOf (saysOf d l)
+line-sheet : (d : Night) (l : Line) → d .stage ≡ G.Day → d .lines < mostLines → isEnd (entryIn l) ≡ false → stepOf d l .sheet ≡ d .sheet ++ textsOf (printedBy d l)
 line-sheet d l day few on =
     let r = dayDoes (d .lines + 1) (d .tables) (entryIn l) in
     let g : r .stage ≡ G.Day = day-stays (d .lines + 1) (d .tables) (entryIn l) on in
@@ -176,7 +176,7 @@ lines-print {n} d (l ∷ ls) day h q on few =
     let g = line-gone d l day (omega arith) h q (on .0) in
     let c = chain-carries h qs (line-inside n (entryIn l) (d .tables)) in
     let k = lines-print {n = n} (stepOf d l) ls (g .stage) (subst Holds (sym (g .after)) (c .stands)) (ap membersIn (g .after) ∙ c .members ∙ q) (on .1) (omega (arith, g .lines)) in
-    let s = saysOf d l in
+    let s = printedBy d l in
     let m : made (qs ++ requestsIn n ls) (d .tables) ≡ made qs (d .tables) ++ made (requestsIn n ls) (stepOf d l .tables) =
     made-join qs (requestsIn n ls) (d .tables) ∙ ap (λ (T : Tables). made qs (d .tables) ++ made (requestsIn n ls) T) (sym (g .after)) in
     let r = reads-join (made qs (d .tables)) (readLine (entryIn l) s) (made (requestsIn n ls) (stepOf d l .tables)) (readOff (stepOf d l) ls)

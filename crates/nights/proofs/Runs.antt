@@ -15,8 +15,8 @@ use Rattle.dayfile.specs.Chunks.{runOf}
 use Rattle.night.specs.declared.Stage.the-variants as G
 use Rattle.night.specs.Lines.{Did, quiet, dayDoes, doesOf, endSays}
 use Rattle.dayfile.specs.Entries.{mostLines}
-use Rattle.night.specs.Stages.{told, isOver}
-use Rattle.desk.specs.Sheet.{Night, textsOf, finished, entryIn, after, stopped, stepOf, closed}
+use Rattle.night.specs.Stages.{saidAll, isOver}
+use Rattle.desk.specs.Sheet.{Night, textsOf, finished, entryIn, afterLine, stopped, stepOf, closed}
 use Rattle.session.proofs.Futures.{quiet-same}
 use Rattle.session.proofs.Over.{over-quiet}
 use Rattle.days.specs.Days.{Request, afterAll}
@@ -36,7 +36,7 @@ run-join d (l ∷ ls) ms = run-join (stepOf d l) ls ms
 step-few : (d : Night) (l : Line) → stepOf d l .lines ≤ d .lines + 1
 step-few d l = go (isOver (d .stage)) (ltb (d .lines) mostLines) (doesOf (d .lines + 1) (d .stage) (d .tables) (entryIn l))
   where
-    go : (o b : Bool) (r : Did) → cond o d (cond b (after d r) (stopped (d .lines + 1) d)) .lines ≤ d .lines + 1
+    go : (o b : Bool) (r : Did) → cond o d (cond b (afterLine d r) (stopped (d .lines + 1) d)) .lines ≤ d .lines + 1
     go true b r = omega arith
     go false true r = omega arith
     go false false r = omega arith
@@ -63,22 +63,22 @@ pub record Gone (d : Night) (qs : List Request) (k : ℕ) (e : Night) : Type 0 w
   pub after : e .tables ≡ afterAll qs (d .tables)
 
 module _ (d : Night) (l : Line) (day : d .stage ≡ G.Day) (few : d .lines < mostLines) where
-  pub step-day : stepOf d l ≡ finished (after d (dayDoes (d .lines + 1) (d .tables) (entryIn l)))
+  pub step-day : stepOf d l ≡ finished (afterLine d (dayDoes (d .lines + 1) (d .tables) (entryIn l)))
   step-day = rw (day, lt-ltb (d .lines) mostLines few)
 
   pub line-gone : {n : ℕ} → Holds (d .tables) → membersIn (d .tables) ≡ n → isEnd (entryIn l) ≡ false → Gone d (requestsOf n (entryIn l)) 1 (stepOf d l)
   line-gone {n} h q e = record {
-    stage = ap (λ (x : Night). x .stage) step-day ∙ ap told (day-stays (d .lines + 1) (d .tables) (entryIn l) e);
+    stage = ap (λ (x : Night). x .stage) step-day ∙ ap saidAll (day-stays (d .lines + 1) (d .tables) (entryIn l) e);
     lines = ap (λ (x : Night). x .lines) step-day;
     after = ap (λ (x : Night). x .tables) step-day ∙ line-calls h q (d .lines + 1) (entryIn l);
   }
 
   -- at `end` it is over once the closing lines are said, and no later line is read
-  end-run : (ls : List Line) → isEnd (entryIn l) ≡ true → runOf stepOf d (l ∷ ls) ≡ finished (after d (quiet (G.Ending 0) (d .tables)))
+  end-run : (ls : List Line) → isEnd (entryIn l) ≡ true → runOf stepOf d (l ∷ ls) ≡ finished (afterLine d (quiet (G.Ending 0) (d .tables)))
   unfolding runOf
   end-run ls e =
-      let q : stepOf d l ≡ finished (after d (quiet (G.Ending 0) (d .tables))) = step-day ∙ ap (λ (r : Did). finished (after d r)) (end-does (d .lines + 1) (d .tables) (entryIn l) e) in
-      ap (λ (x : Night). runOf stepOf x ls) q ∙ over-run (finished (after d (quiet (G.Ending 0) (d .tables)))) ls refl
+      let q : stepOf d l ≡ finished (afterLine d (quiet (G.Ending 0) (d .tables))) = step-day ∙ ap (λ (r : Did). finished (afterLine d r)) (end-does (d .lines + 1) (d .tables) (entryIn l) e) in
+      ap (λ (x : Night). runOf stepOf x ls) q ∙ over-run (finished (afterLine d (quiet (G.Ending 0) (d .tables)))) ls refl
 
   pub end-tables : (ls : List Line) → isEnd (entryIn l) ≡ true → runOf stepOf d (l ∷ ls) .tables ≡ d .tables
   end-tables ls e = ap (λ (x : Night). x .tables) (end-run ls e)

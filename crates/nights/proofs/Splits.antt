@@ -15,8 +15,8 @@ use Rattle.dayfile.specs.Chunks.{runOf}
 use Rattle.night.specs.declared.Stage.{Stage}
 use Rattle.night.specs.declared.Stage.the-variants as G
 use Rattle.night.specs.Lines.{dayDoes, doesOf}
-use Rattle.night.specs.Stages.{isOver, told}
-use Rattle.desk.specs.Sheet.{Night, after, stopped, entryIn, stepOf, morning}
+use Rattle.night.specs.Stages.{isOver, saidAll}
+use Rattle.desk.specs.Sheet.{Night, afterLine, stopped, entryIn, stepOf, morning}
 use Rattle.nights.specs.Files.{isEnd, nightAfter, Opens, Whole}
 use Rattle.nights.proofs.Runs.{run-join}
 
@@ -51,7 +51,7 @@ isOpen G.Day = true
 isOpen (G.Ending k) = true
 isOpen G.Over = true
 
-told-open : (g : Stage) → isOpen g ≡ true → isOpen (told g) ≡ true
+told-open : (g : Stage) → isOpen g ≡ true → isOpen (saidAll g) ≡ true
 told-open G.House e = e
 told-open (G.Members count k) e = e
 told-open G.Day e = e
@@ -74,7 +74,7 @@ does-open n t e G.Over q = refl
 step-open : (d : Night) (l : Line) → isOpen (d .stage) ≡ true → isOpen (stepOf d l .stage) ≡ true
 step-open d l q = go (isOver (d .stage)) (ltb (d .lines) mostLines)
   where
-    go : (o b : Bool) → isOpen (told (cond o d (cond b (after d (doesOf (d .lines + 1) (d .stage) (d .tables) (entryIn l))) (stopped (d .lines + 1) d)) .stage)) ≡ true
+    go : (o b : Bool) → isOpen (saidAll (cond o d (cond b (afterLine d (doesOf (d .lines + 1) (d .stage) (d .tables) (entryIn l))) (stopped (d .lines + 1) d)) .stage)) ≡ true
     go true b = told-open (d .stage) q
     go false true = told-open (doesOf (d .lines + 1) (d .stage) (d .tables) (entryIn l) .stage) (does-open (d .lines + 1) (d .tables) (entryIn l) (d .stage) q)
     go false false = refl

@@ -25,8 +25,8 @@ use Rattle.days.specs.Days.{Request, deposits, submits, releases, groups, resol
 -- ---- the requests of a day
 
 -- a resolution of a house of n members: the lent list is as long
-abbrev pub resolution : ℕ → Request
-resolution n = resolves (replicate n 0)
+abbrev pub resolveRequest : ℕ → Request
+resolveRequest n = resolves (replicate n 0)
 
 -- what a line of the day requests in a house of n members
 abbrev pub requestOf : ℕ → DayLine → Request
@@ -34,7 +34,7 @@ requestOf n (E.pay kind m k q x) = submits m k q x
 requestOf n (E.deposit m x) = deposits m x
 requestOf n (E.release m) = releases m
 requestOf n (E.group k) = groups k
-requestOf n E.resolve = resolution n
+requestOf n E.resolve = resolveRequest n
 
 -- what any line requests there
 abbrev pub requestsOf : ℕ → Entry → List Request
@@ -71,12 +71,12 @@ pub record Opens (ls : List Line) : Type 0 where
   pub opens : nightAfter ls .stage ≡ G.Day
 
 -- the balance and the line that a member line gives
-abbrev pub balanceOf : Entry → List ℤ
-balanceOf (E.opening (E.house m)) = []
-balanceOf (E.opening (E.member m b l)) = b ∷ []
-balanceOf (E.day d) = []
-balanceOf E.end = []
-balanceOf E.bad = []
+abbrev pub balanceGiven : Entry → List ℤ
+balanceGiven (E.opening (E.house m)) = []
+balanceGiven (E.opening (E.member m b l)) = b ∷ []
+balanceGiven (E.day d) = []
+balanceGiven E.end = []
+balanceGiven E.bad = []
 
 abbrev pub creditOf : Entry → List ℤ
 creditOf (E.opening (E.house m)) = []
@@ -88,7 +88,7 @@ creditOf E.bad = []
 -- the balances and the lines that some lines give, in order
 abbrev pub balancesIn : List Line → List ℤ
 balancesIn [] = []
-balancesIn (l ∷ ls) = balanceOf (entryIn l) ++ balancesIn ls
+balancesIn (l ∷ ls) = balanceGiven (entryIn l) ++ balancesIn ls
 
 abbrev pub creditsIn : List Line → List ℤ
 creditsIn [] = []
@@ -131,7 +131,7 @@ madeAfter opening day = made (requestsAfter opening day) (openedBy opening)
 -- the last of them is a resolution
 pub record LastResolves (opening day : List Line) : Type 0 where
   pub eve : List Request
-  pub parts : requestsAfter opening day ≡ eve ++ (resolution (membersOf opening) ∷ [])
+  pub parts : requestsAfter opening day ≡ eve ++ (resolveRequest (membersOf opening) ∷ [])
 
 -- ---- the closing lines
 

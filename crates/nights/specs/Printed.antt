@@ -60,13 +60,13 @@ printedAs i t d (Bad r) = refusal i r
 -- ---- the lines of a day
 
 -- what the next line prints,
-abbrev pub saysOf : Night → Line → List Says
-saysOf d l = dayDoes (d .lines + 1) (d .tables) (entryIn l) .said
+abbrev pub printedBy : Night → Line → List Says
+printedBy d l = dayDoes (d .lines + 1) (d .tables) (entryIn l) .said
 
 -- and some lines, one after the other
 abbrev pub saysIn : Night → List Line → List Says
 saysIn d [] = []
-saysIn d (l ∷ ls) = saysOf d l ++ saysIn (stepOf d l) ls
+saysIn d (l ∷ ls) = printedBy d l ++ saysIn (stepOf d l) ls
 
 -- ---- what is read off
 
@@ -113,7 +113,7 @@ readLine E.bad ss = []
 -- of some lines and what they printed
 abbrev pub readOff : Night → List Line → List Call
 readOff d [] = []
-readOff d (l ∷ ls) = readLine (entryIn l) (saysOf d l) ++ readOff (stepOf d l) ls
+readOff d (l ∷ ls) = readLine (entryIn l) (printedBy d l) ++ readOff (stepOf d l) ls
 
 -- cs and ds have the same deposits and payments
 pub record Reads (cs ds : List Call) : Type 0 where

@@ -5,12 +5,12 @@ use mathlib.Core.List.{List, [], _∷_, _++_, append-assoc}
 use Prim.Native.Nat.{ℕ, _+_}
 use lib.Dec.{ltb}
 use Rattle.dayfile.specs.Lines.{Line}
-use Rattle.dayfile.specs.Chunks.{lineOf, Fed, feedOf, endBy, finish}
+use Rattle.dayfile.specs.Chunks.{heldLine, Fed, feedOf, endBy, finish}
 use Rattle.dayfile.proofs.Chunks.{feed-under}
 use Rattle.night.specs.Lines.{doesOf}
 use Rattle.dayfile.specs.Entries.{mostLines}
 use Rattle.night.specs.Stages.{isOver}
-use Rattle.desk.specs.Sheet.{Night, finished, entryIn, after, stopped, stepOf, closed}
+use Rattle.desk.specs.Sheet.{Night, finished, entryIn, afterLine, stopped, stepOf, closed}
 
 abbrev pub behind : List ℕ → Night → Night
 behind p d = record { lines = d .lines; stage = d .stage; tables = d .tables; sheet = p ++ d .sheet }
@@ -19,8 +19,8 @@ step-behind : (p : List ℕ) (d : Night) (l : Line) → stepOf (behind p d) l �
 step-behind p d l = go (isOver (d .stage)) (ltb (d .lines) mostLines)
   where
     go : (o m : Bool)
-        → finished (cond o (behind p d) (cond m (after (behind p d) (doesOf (d .lines + 1) (d .stage) (d .tables) (entryIn l))) (stopped (d .lines + 1) (behind p d))))
-        ≡ behind p (finished (cond o d (cond m (after d (doesOf (d .lines + 1) (d .stage) (d .tables) (entryIn l))) (stopped (d .lines + 1) d))))
+        → finished (cond o (behind p d) (cond m (afterLine (behind p d) (doesOf (d .lines + 1) (d .stage) (d .tables) (entryIn l))) (stopped (d .lines + 1) (behind p d))))
+        ≡ behind p (finished (cond o d (cond m (afterLine d (doesOf (d .lines + 1) (d .stage) (d .tables) (entryIn l))) (stopped (d .lines + 1) d))))
     go true m = simp append-assoc
     go false true = simp append-assoc
     go false false = simp append-assoc
@@ -43,4 +43,4 @@ closed-behind p d = go (isOver (d .stage))
 
 -- and so does what is closed
 pub close-behind : (p : List ℕ) (f : Fed Night) → closed (finish stepOf (record { day = behind p (f .day); held = f .held })) ≡ p ++ closed (finish stepOf f)
-close-behind p f = ap closed (last-behind p (f .held .bytes) (f .day) (lineOf (f .held))) ∙ closed-behind p (finish stepOf f)
+close-behind p f = ap closed (last-behind p (f .held .bytes) (f .day) (heldLine (f .held))) ∙ closed-behind p (finish stepOf f)

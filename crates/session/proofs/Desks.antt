@@ -10,7 +10,7 @@ use lib.ListN.{length, take, drop, length-drop}
 use lib.Seq.{length-take-le}
 use Rattle.dayfile.specs.Entries.{mostCounts}
 use Rattle.dayfile.specs.Lines.{mostBytes}
-use Rattle.dayfile.specs.Chunks.{lineOf, stateOf}
+use Rattle.dayfile.specs.Chunks.{heldLine, stateOf}
 use Rattle.tables.proofs.Tests.{and-both}
 use Rattle.sheet.specs.Room.{leastRoom, hasRoom}
 use Rattle.night.specs.declared.Stage.{Stage}
@@ -22,7 +22,7 @@ use Rattle.night.specs.Stages.{isEnding, isOver}
 use Rattle.desk.specs.Sheet.{stopped, answered}
 use Rattle.session.specs.Stops.{Runs}
 use Rattle.desk.specs.Desk.{Desk, endSaid, eatTurn}
-use Rattle.session.specs.Turns.{turnOf, lastOf, closeTurn, isOn, goesOn, closesOn}
+use Rattle.session.specs.Turns.{turnOf, lastNight, closeTurn, isOn, goesOn, closesOn}
 use Rattle.desk.specs.States.{nightOf, deskOf, fresh, mostEnding, turnsLeft, Grown, Fit}
 use Rattle.session.specs.Feeding.{goesAt, closesAt}
 use Rattle.session.proofs.Stopping.{runs-none, runs-next}
@@ -45,24 +45,24 @@ eat-turned d e = rw e
 
 -- and at the end of the input the last one
 pub last-closed : (rest : List ℕ) (s r : State) (t u : Tables) (out out₁ buf : List ℕ) → isEnding (s .stage) ≡ false
-    → nightOf r u out₁ ≡ lastOf (take (s .cut .held) buf) (deskOf rest s t out buf) → r .cut ≡ fresh
+    → nightOf r u out₁ ≡ lastNight (take (s .cut .held) buf) (deskOf rest s t out buf) → r .cut ≡ fresh
     → deskOf rest r u out₁ buf ≡ closeTurn (deskOf rest s t out buf)
 last-closed rest s r t u out out₁ buf e q k = rw (e, q, k)
 
 module _ (s : State) (t : Tables) (out buf : List ℕ) where
   -- a last line that no byte 10 ended,
   pub last-line : 0 < s .cut .held → s .cut .held ≤ length buf
-      → answered (nightOf s t out) (lineOf (stateOf buf (s .cut))) ≡ lastOf (take (s .cut .held) buf) (deskOf [] s t out buf)
+      → answered (nightOf s t out) (heldLine (stateOf buf (s .cut))) ≡ lastNight (take (s .cut .held) buf) (deskOf [] s t out buf)
   last-line l h = go buf (s .cut .held) l h
     where
       go : (b : List ℕ) (k : ℕ) → 0 < k → k ≤ length b
-          → answered (nightOf s t out) (lineOf (stateOf buf (s .cut))) ≡ lastOf (take k b) (deskOf [] s t out buf)
+          → answered (nightOf s t out) (heldLine (stateOf buf (s .cut))) ≡ lastNight (take k b) (deskOf [] s t out buf)
       go b zero l h = absurd (omega arith)
       go [] (suc k) l h = absurd (omega arith)
       go (x ∷ b) (suc k) l h = refl
 
   -- or none
-  pub last-none : s .cut .held ≡ 0 → stopped 0 (nightOf s t out) ≡ lastOf (take (s .cut .held) buf) (deskOf [] s t out buf)
+  pub last-none : s .cut .held ≡ 0 → stopped 0 (nightOf s t out) ≡ lastNight (take (s .cut .held) buf) (deskOf [] s t out buf)
   last-none e = rw e
 
 -- ---- where another turn follows

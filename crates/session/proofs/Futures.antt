@@ -11,16 +11,16 @@ use lib.Seq.{drop-drop, drop-length}
 use Rattle.rule.proofs.Lists.{length-listing}
 use Rattle.tables.specs.Layout.{countOf, Tables}
 use Rattle.dayfile.specs.Lines.{Line}
-use Rattle.dayfile.specs.Chunks.{none, lineOf, Eaten, eatOf, feedOf, endBy}
+use Rattle.dayfile.specs.Chunks.{nothingHeld, heldLine, Eaten, eatOf, feedOf, endBy}
 use Rattle.dayfile.proofs.Chunks.{feed-eaten, eaten-all}
 use Rattle.sheet.specs.declared.Says.{Says}
 use Rattle.night.specs.declared.Stage.{Stage}
 use Rattle.night.specs.declared.Stage.the-variants as G
 use Rattle.night.specs.Lines.{balanceSays, endSays}
-use Rattle.night.specs.Stages.{isEnding, isOver, restSays, nextStage, told}
+use Rattle.night.specs.Stages.{isEnding, isOver, restSays, nextStage, saidAll}
 use Rattle.desk.specs.Sheet.{Night, textsOf, finished, stopped, answered, stepOf, closed}
 use Rattle.desk.specs.Desk.{Desk, endSaid, eatenTo, eatTurn}
-use Rattle.session.specs.Turns.{endTurn, turnOf, lastOf, lastTurn, closeTurn, comesTo, closesTo}
+use Rattle.session.specs.Turns.{endTurn, turnOf, lastNight, lastTurn, closeTurn, comesTo, closesTo}
 
 -- ---- a night that is not at its end has nothing to say
 
@@ -31,7 +31,7 @@ rest-none G.Day t e = refl
 rest-none (G.Ending k) t e = absurd (false≢true (sym e))
 rest-none G.Over t e = refl
 
-told-same : (g : Stage) → isEnding g ≡ false → told g ≡ g
+told-same : (g : Stage) → isEnding g ≡ false → saidAll g ≡ g
 told-same G.House e = refl
 told-same (G.Members count k) e = refl
 told-same G.Day e = refl
@@ -60,13 +60,13 @@ rest-next t (G.Ending k) = go (ltb k (countOf (t .counters))) refl ∙ sym (drop
         sym (drop-of-length-le (endSays t) l)
 rest-next t G.Over = refl
 
-told-next : (t : Tables) (g : Stage) → told (nextStage g t) ≡ told g
+told-next : (t : Tables) (g : Stage) → saidAll (nextStage g t) ≡ saidAll g
 told-next t G.House = refl
 told-next t (G.Members count k) = refl
 told-next t G.Day = refl
 told-next t (G.Ending k) = go (ltb k (countOf (t .counters)))
   where
-    go : (b : Bool) → told (cond b (G.Ending (k + 1)) G.Over) ≡ G.Over
+    go : (b : Bool) → saidAll (cond b (G.Ending (k + 1)) G.Over) ≡ G.Over
     go true = refl
     go false = refl
 told-next t G.Over = refl
@@ -82,14 +82,14 @@ module _ (n : Night) (quiet : isEnding (n .stage) ≡ false) where
   answered-step : (l : Line) → finished (answered n l) ≡ stepOf (finished n) l
   answered-step l = ap (λ (d : Night). stepOf d l) (sym (quiet-same n quiet))
 
-  eaten-comes : (s : List ℕ) (e : Eaten) → (e .done ≡ false → e .used ≡ length s) → comesTo (eatenTo (record { rest = s; night = n; held = none }) e)
-      ≡ cond (e .done) (feedOf stepOf (drop (e .used) s) (record { day = stepOf (finished n) (lineOf (e .held)); held = none })) (record { day = finished n; held = e .held })
+  eaten-comes : (s : List ℕ) (e : Eaten) → (e .done ≡ false → e .used ≡ length s) → comesTo (eatenTo (record { rest = s; night = n; held = nothingHeld }) e)
+      ≡ cond (e .done) (feedOf stepOf (drop (e .used) s) (record { day = stepOf (finished n) (heldLine (e .held)); held = nothingHeld })) (record { day = finished n; held = e .held })
   unfolding feedOf
   eaten-comes s e all = go (e .done) refl
     where
-      go : (b : Bool) → e .done ≡ b → feedOf stepOf (drop (e .used) s) (record { day = finished (cond b (answered n (lineOf (e .held))) n); held = cond b none (e .held) })
-          ≡ cond b (feedOf stepOf (drop (e .used) s) (record { day = stepOf (finished n) (lineOf (e .held)); held = none })) (record { day = finished n; held = e .held })
-      go true q = rw (answered-step (lineOf (e .held)))
+      go : (b : Bool) → e .done ≡ b → feedOf stepOf (drop (e .used) s) (record { day = finished (cond b (answered n (heldLine (e .held))) n); held = cond b nothingHeld (e .held) })
+          ≡ cond b (feedOf stepOf (drop (e .used) s) (record { day = stepOf (finished n) (heldLine (e .held)); held = nothingHeld })) (record { day = finished n; held = e .held })
+      go true q = rw (answered-step (heldLine (e .held)))
       go false q = rw (all q, drop-length s)
 
 pub turn-comes : (d : Desk) → comesTo (turnOf d) ≡ comesTo d
@@ -104,12 +104,12 @@ turn-comes d = go (isEnding (d .night .stage)) refl
 -- ---- a turn at the end of the input
 
 last-closes : (d : Desk) → isEnding (d .night .stage) ≡ false → isOver (d .night .stage) ≡ false → (u : List ℕ)
-    → closed (finished (lastOf u d)) ≡ closed (endBy stepOf u (finished (d .night)) (lineOf (d .held)))
+    → closed (finished (lastNight u d)) ≡ closed (endBy stepOf u (finished (d .night)) (heldLine (d .held)))
 last-closes d e o [] =
     append-nil (stopped 0 (d .night) .sheet)
     ∙ sym (ap (λ (b : Bool). cond b (d .night) (stopped 0 (d .night)) .sheet) o)
     ∙ sym (ap closed (quiet-same (d .night) e))
-last-closes d e o (b ∷ u) = rw (answered-step (d .night) e (lineOf (d .held)))
+last-closes d e o (b ∷ u) = rw (answered-step (d .night) e (heldLine (d .held)))
 
 pub close-closes : (d : Desk) → isOver (d .night .stage) ≡ false → closesTo (closeTurn d) ≡ closesTo d
 close-closes d o = go (isEnding (d .night .stage)) refl

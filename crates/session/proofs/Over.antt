@@ -5,7 +5,7 @@ use mathlib.Core.List.{List, [], _∷_}
 use Prim.Native.Nat.{ℕ}
 use lib.Dec.{eqb}
 use Rattle.dayfile.specs.Lines.{Line}
-use Rattle.dayfile.specs.Chunks.{none, pushed, lineOf, Fed, byteOf, feedOf, endBy, finish}
+use Rattle.dayfile.specs.Chunks.{nothingHeld, pushed, heldLine, Fed, byteOf, feedOf, endBy, finish}
 use Rattle.night.specs.declared.Stage.{Stage}
 use Rattle.night.specs.declared.Stage.the-variants as G
 use Rattle.night.specs.Stages.{isEnding, isOver}
@@ -26,8 +26,8 @@ over-by : (b : ℕ) (f : Fed Night) → isOver (f .day .stage) ≡ true → byte
 over-by b f o = go (eqb b 10)
   where
     go : (p : Bool)
-        → cond {A = Fed Night} p (record { day = stepOf (f .day) (lineOf (f .held)); held = none }) (record { day = f .day; held = pushed b (f .held) }) .day ≡ f .day
-    go true = over-stays (f .day) (lineOf (f .held)) o
+        → cond {A = Fed Night} p (record { day = stepOf (f .day) (heldLine (f .held)); held = nothingHeld }) (record { day = f .day; held = pushed b (f .held) }) .day ≡ f .day
+    go true = over-stays (f .day) (heldLine (f .held)) o
     go false = refl
 
 over-fed : (s : List ℕ) (f : Fed Night) → isOver (f .day .stage) ≡ true → feedOf stepOf s f .day ≡ f .day
@@ -43,5 +43,5 @@ pub over-closed : (s : List ℕ) (f : Fed Night) → isOver (f .day .stage) ≡ 
 over-closed s f o =
     let g : Fed Night = feedOf stepOf s f in
     let e : finish stepOf g ≡ f .day =
-    over-last (g .held .bytes) (g .day) (lineOf (g .held)) (ap (λ (d : Night). isOver (d .stage)) (over-fed s f o) ∙ o) ∙ over-fed s f o in
+    over-last (g .held .bytes) (g .day) (heldLine (g .held)) (ap (λ (d : Night). isOver (d .stage)) (over-fed s f o) ∙ o) ∙ over-fed s f o in
     ap closed e ∙ ap (λ (b : Bool). cond b (f .day) (stopped 0 (f .day)) .sheet) o

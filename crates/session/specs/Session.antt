@@ -3,7 +3,7 @@
 use mathlib.Core.Path.{_≡_}
 use mathlib.Core.List.{List, [], _++_}
 use Prim.Native.Nat.{ℕ}
-use Rattle.dayfile.specs.Chunks.{none}
+use Rattle.dayfile.specs.Chunks.{nothingHeld}
 use Rattle.desk.specs.Sheet.{morning}
 use Rattle.session.specs.Stops.{Stops}
 use Rattle.desk.specs.Desk.{Desk}
@@ -11,7 +11,7 @@ use Rattle.session.specs.Turns.{turnOf, goesOn, closeTurn, closesOn}
 
 -- before the first line
 abbrev pub firstDesk : Desk
-firstDesk = record { rest = []; night = morning; held = none }
+firstDesk = record { rest = []; night = morning; held = nothingHeld }
 
 -- the next chunk is there
 abbrev pub handed : List ℕ → Desk → Desk

@@ -4,7 +4,7 @@ use mathlib.Core.List.{List, [], _∷_}
 use Prim.Native.Nat.{ℕ}
 use lib.Dec.{ltb}
 use lib.ListN.{length}
-use Rattle.dayfile.specs.Chunks.{none, lineOf, Fed, feedOf, finish}
+use Rattle.dayfile.specs.Chunks.{nothingHeld, heldLine, Fed, feedOf, finish}
 use Rattle.sheet.specs.Room.{hasRoom}
 use Rattle.night.specs.declared.Stage.{Stage}
 use Rattle.night.specs.Stages.{isEnding, isOver}
@@ -22,13 +22,13 @@ abbrev pub turnOf : Desk → Desk
 turnOf d = cond (isEnding (d .night .stage)) (endTurn d) (eatTurn d)
 
 -- the last line of the input, if no byte 10 ended it; without one, a night that is not over is refused as line 0
-abbrev pub lastOf : List ℕ → Desk → Night
-lastOf [] d = stopped 0 (d .night)
-lastOf (b ∷ u) d = answered (d .night) (lineOf (d .held))
+abbrev pub lastNight : List ℕ → Desk → Night
+lastNight [] d = stopped 0 (d .night)
+lastNight (b ∷ u) d = answered (d .night) (heldLine (d .held))
 
 -- a turn that does so
 abbrev pub lastTurn : Desk → Desk
-lastTurn d = record { rest = d .rest; night = lastOf (d .held .bytes) d; held = none }
+lastTurn d = record { rest = d .rest; night = lastNight (d .held .bytes) d; held = nothingHeld }
 
 -- a turn at the end of the input
 abbrev pub closeTurn : Desk → Desk

@@ -17,7 +17,7 @@ ghost use Rattle.dayfile.specs.Lines.{mostBytes};
 ghost use Rattle.sheet.specs.Room.{leastRoom};
 ghost use Rattle.tables.specs.Layout.{tables};
 ghost use Rattle.night.specs.Stages.{isEnding, isOver};
-ghost use Rattle.session.specs.Turns.{turnOf, lastOf, closeTurn};
+ghost use Rattle.session.specs.Turns.{turnOf, lastNight, closeTurn};
 ghost use Rattle.desk.specs.States.{nightOf, deskOf, fresh, turnsLeft, Grown, Fit};
 ghost use Rattle.session.specs.Feeding.{goesAt, closesAt};
 
@@ -111,7 +111,7 @@ fn last_on(
 ) -> State
     requires { ⌜ Fit s (tables (now accounts) (now counters) (now pays)) (length (now out)) × (isOver (s .stage) ≡ false) × (isEnding (s .stage) ≡ false) ⌝ }
     requires { ⌜ (length (now counts) ≡ mostCounts) × (length (now buf) ≡ mostBytes) × (s .used + leastRoom ≤ length (now out)) ⌝ }
-    ensures { λ r. ⌜ nightOf r (tables (now (accounts .exit)) (now (counters .exit)) (now (pays .exit))) (now (out .exit)) ≡ lastOf (take (s .cut .held) (now (buf .entry))) (deskOf [] s (tables (now (accounts .entry)) (now (counters .entry)) (now (pays .entry))) (now (out .entry)) (now (buf .entry))) ⌝ }
+    ensures { λ r. ⌜ nightOf r (tables (now (accounts .exit)) (now (counters .exit)) (now (pays .exit))) (now (out .exit)) ≡ lastNight (take (s .cut .held) (now (buf .entry))) (deskOf [] s (tables (now (accounts .entry)) (now (counters .entry)) (now (pays .entry))) (now (out .entry)) (now (buf .entry))) ⌝ }
     ensures { λ r. ⌜ Fit r (tables (now (accounts .exit)) (now (counters .exit)) (now (pays .exit))) (length (now (out .entry))) × (r .cut ≡ fresh) × (turnsLeft (r .stage) 0 < turnsLeft (s .stage) (s .cut .held)) × Grown (s .used) (r .used) (now (out .entry)) (now (out .exit)) ⌝ }
 {
     let c = s.cut;

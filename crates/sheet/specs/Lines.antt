@@ -57,8 +57,8 @@ abbrev pub startText : ℕ → List ℕ
 startText line = digitsOf line ++ (9 ∷ [])
 
 -- a line that begins with its number
-abbrev pub numbered : ℕ → List ℕ → List ℤ → Parts
-numbered line word zs = record { start = startText line; word = word; numbers = zs }
+abbrev pub withNumber : ℕ → List ℕ → List ℤ → Parts
+withNumber line word zs = record { start = startText line; word = word; numbers = zs }
 
 -- a line that begins with its word
 abbrev pub plain : List ℕ → List ℤ → Parts
@@ -66,14 +66,14 @@ plain word zs = record { start = []; word = word; numbers = zs }
 
 -- the parts of each kind of line
 abbrev pub partsOf : Says → Parts
-partsOf (S.Open line count sum) = numbered line openWord (pos count ∷ sum ∷ [])
-partsOf (S.Queued line payer number) = numbered line queuedWord (pos payer ∷ pos number ∷ [])
-partsOf (S.Deposited line member balance) = numbered line depositedWord (pos member ∷ balance ∷ [])
-partsOf (S.Released line payer number amount) = numbered line releasedWord (pos payer ∷ pos number ∷ pos amount ∷ [])
-partsOf (S.Group line payments sum) = numbered line groupWord (pos payments ∷ pos sum ∷ [])
+partsOf (S.Open line count sum) = withNumber line openWord (pos count ∷ sum ∷ [])
+partsOf (S.Queued line payer number) = withNumber line queuedWord (pos payer ∷ pos number ∷ [])
+partsOf (S.Deposited line member balance) = withNumber line depositedWord (pos member ∷ balance ∷ [])
+partsOf (S.Released line payer number amount) = withNumber line releasedWord (pos payer ∷ pos number ∷ pos amount ∷ [])
+partsOf (S.Group line payments sum) = withNumber line groupWord (pos payments ∷ pos sum ∷ [])
 partsOf (S.Resolve line verdict payments sum waiting lowest) =
-    numbered line resolveWord (pos verdict ∷ pos payments ∷ pos sum ∷ pos waiting ∷ pos lowest ∷ [])
-partsOf (S.Refused line code) = numbered line refusedWord (pos code ∷ [])
+    withNumber line resolveWord (pos verdict ∷ pos payments ∷ pos sum ∷ pos waiting ∷ pos lowest ∷ [])
+partsOf (S.Refused line code) = withNumber line refusedWord (pos code ∷ [])
 partsOf (S.Balance member balance waiting) = plain balanceWord (pos member ∷ balance ∷ pos waiting ∷ [])
 partsOf (S.Money sum) = plain moneyWord (sum ∷ [])
 

@@ -2,7 +2,7 @@
 use mathlib.Core.Path.{ap}
 use Rattle.answers.proofs.Outcomes.{answer-is}
 use Rattle.rule.proofs.Ints.{plain}
-use Rattle.daylines.specs.Calls.{lineOf, depositSays}
+use Rattle.daylines.specs.Calls.{saying, depositSays}
 use borrow.Author.Needs.{needs}
 use Rattle.daylines.proofs.deposit.Statement.{statement}
 use Rattle.daylines.proofs.deposit.Tie as tie
@@ -28,7 +28,7 @@ returns c =
     let v = u .before .before .before in
     let s = v .args in
     let f = c .known-told .given .0 .1 in
-    simp plain (ap (lineOf (depositSays (s .n) (s .member))) (answer-is (c .before .r .given .1) (c .before .before .before .before .deposit .ensures)))
+    simp plain (ap (saying (depositSays (s .n) (s .member))) (answer-is (c .before .r .given .1) (c .before .before .before .before .deposit .ensures)))
 
 same-length-2 : tie.Need-same-length-2
 same-length-2 c = search needs
@@ -38,7 +38,7 @@ returns-2 c =
     let u = c .before .before .before .before .before in
     let v = u .before .before .before .before in
     let s = v .args in
-    rw (c .refused .ensures) (ap (lineOf (depositSays (s .n) (s .member))) (answer-is (c .before .before .r2 .given .1) (u .deposit .ensures)))
+    rw (c .refused .ensures) (ap (saying (depositSays (s .n) (s .member))) (answer-is (c .before .before .r2 .given .1) (u .deposit .ensures)))
 
 pub deposit-spec : {M : Type 1} → statement M
 deposit-spec =

@@ -4,7 +4,7 @@ use lib.ListN.{length-take}
 use native.Mathlib.Omega.{arith}
 use Rattle.tables.specs.Layout.{Tables, tables}
 use Rattle.answers.proofs.Outcomes.{answer-is}
-use Rattle.daylines.specs.Calls.{lineOf, groupSays}
+use Rattle.daylines.specs.Calls.{saying, groupSays}
 use Rattle.daylines.proofs.Settling.{group-narrowed}
 use borrow.Author.Needs.{needs}
 use Rattle.daylines.proofs.group.Statement.{statement}
@@ -52,7 +52,7 @@ returns c =
     let t : Tables = tables (s .args .accounts .now) (s .args .counters .now) (s .args .pays .now) in
     let n = w .narrowed in
     let same = group-narrowed t (s .pre .0) (s .args .m) (s .args .counts .now) (n .result) (s .pre .1) (s .pre .2) (n .ensures .0) (n .ensures .1) in
-    ap (lineOf (groupSays (s .args .n))) (answer-is (c .before .r .given .1) (v .group .ensures ∙ same))
+    ap (saying (groupSays (s .args .n))) (answer-is (c .before .r .given .1) (v .group .ensures ∙ same))
 
 same-length-4 : tie.Need-same-length-4
 same-length-4 c = search needs
@@ -72,7 +72,7 @@ returns-2 c =
     let t : Tables = tables (s .args .accounts .now) (s .args .counters .now) (s .args .pays .now) in
     let n = w .narrowed in
     let same = group-narrowed t (s .pre .0) (s .args .m) (s .args .counts .now) (n .result) (s .pre .1) (s .pre .2) (n .ensures .0) (n .ensures .1) in
-    rw (c .refused .ensures) (ap (lineOf (groupSays (s .args .n))) (answer-is (c .before .before .r2 .given .1) (v .group .ensures ∙ same)))
+    rw (c .refused .ensures) (ap (saying (groupSays (s .args .n))) (answer-is (c .before .before .r2 .given .1) (v .group .ensures ∙ same)))
 
 pub group-spec : {M : Type 1} → statement M
 group-spec =

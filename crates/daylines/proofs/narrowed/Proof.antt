@@ -1,6 +1,6 @@
 -- `daylines::narrowed` meets its contract. The invariant: the first i counts stand in the array, in 16 bits.
 use Rattle.daylines.proofs.Settling.{least-turn}
-use Rattle.daylines.specs.Calls.{least}
+use Rattle.daylines.specs.Calls.{capped}
 use lib.ListN.{length, getD, length-set}
 use native.Mathlib.Omega.{arith}
 use Rattle.tables.specs.Sizes.{members}
@@ -10,7 +10,7 @@ use Rattle.daylines.proofs.narrowed.Statement.{statement}
 use Rattle.daylines.proofs.narrowed.Tie as tie
 
 abbrev Inv-loop : tie.InvT-loop
-Inv-loop counts m k₀ i₀ k i = (length k ≡ members) × (i ≤ m) × ((j : ℕ) → j < i → getD k j 0 ≡ least (getD counts j 0))
+Inv-loop counts m k₀ i₀ k i = (length k ≡ members) × (i ≤ m) × ((j : ℕ) → j < i → getD k j 0 ≡ capped (getD counts j 0))
 
 abbrev μ-loop : tie.MeasureT-loop
 μ-loop counts m k₀ i₀ k i = m - i

@@ -1,7 +1,7 @@
 -- `daylines::pay` meets its contract: no loop.
 use mathlib.Core.Path.{ap}
 use Rattle.answers.proofs.Outcomes.{answer-is}
-use Rattle.daylines.specs.Calls.{lineOf, paySays}
+use Rattle.daylines.specs.Calls.{saying, paySays}
 use borrow.Author.Needs.{needs}
 use Rattle.daylines.proofs.pay.Statement.{statement}
 use Rattle.daylines.proofs.pay.Tie as tie
@@ -30,7 +30,7 @@ returns c =
     let v = u .before in
     let w = v .before .before .before .before .before in
     let s = w .args in
-    ap (lineOf (paySays (s .n) (s .payer) (s .number))) (answer-is (c .enum-told .given .1) (v .submit .ensures))
+    ap (saying (paySays (s .n) (s .payer) (s .number))) (answer-is (c .enum-told .given .1) (v .submit .ensures))
 
 same-length-3 : tie.Need-same-length-3
 same-length-3 c = search needs
@@ -44,7 +44,7 @@ returns-2 c =
     let v = u .before .before .before in
     let w = v .before .before .before .before .before in
     let s = w .args in
-    rw (c .refused .ensures) (ap (lineOf (paySays (s .n) (s .payer) (s .number))) (answer-is (c .before .before .r .given .1) (v .submit .ensures)))
+    rw (c .refused .ensures) (ap (saying (paySays (s .n) (s .payer) (s .number))) (answer-is (c .before .before .r .given .1) (v .submit .ensures)))
 
 pub pay-spec : {M : Type 1} → statement M
 pay-spec =

@@ -1,7 +1,7 @@
 -- `daylines::release` meets its contract: no loop.
 use mathlib.Core.Path.{ap}
 use Rattle.answers.proofs.Outcomes.{answer-is}
-use Rattle.daylines.specs.Calls.{lineOf, releaseSays}
+use Rattle.daylines.specs.Calls.{saying, releaseSays}
 use borrow.Author.Needs.{needs}
 use Rattle.daylines.proofs.release.Statement.{statement}
 use Rattle.daylines.proofs.release.Tie as tie
@@ -34,7 +34,7 @@ returns c =
     let w = v .before .before .before .before .before in
     let x = w .before in
     let s = x .args in
-    ap (lineOf (releaseSays (s .n))) (answer-is (c .before .r .given .1) (v .release .ensures))
+    ap (saying (releaseSays (s .n))) (answer-is (c .before .r .given .1) (v .release .ensures))
 
 same-length-4 : tie.Need-same-length-4
 same-length-4 c = search needs
@@ -52,7 +52,7 @@ returns-2 c =
     let w = v .before .before .before .before .before in
     let x = w .before in
     let s = x .args in
-    rw (c .refused .ensures) (ap (lineOf (releaseSays (s .n))) (answer-is (c .before .before .r2 .given .1) (v .release .ensures)))
+    rw (c .refused .ensures) (ap (saying (releaseSays (s .n))) (answer-is (c .before .before .r2 .given .1) (v .release .ensures)))
 
 pub release-spec : {M : Type 1} → statement M
 release-spec =

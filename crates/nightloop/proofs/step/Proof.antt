@@ -2,7 +2,7 @@
 use Rattle.nightloop.proofs.Steps.{stood-taken, stood-ate, stood-closed}
 use Rattle.nightloop.specs.declared.Next.{Next}
 use Rattle.nightloop.specs.declared.Run.{Run}
-use Rattle.nightloop.specs.Steps.{Stood}
+use Rattle.nightloop.specs.Steps.{SoFar}
 use Rattle.tables.specs.Layout.{Tables, tables}
 use mathlib.Core.Path.{_≡_, subst, sym}
 use borrow.Author.Needs.{needs}
@@ -13,8 +13,8 @@ abbrev lent : tie.Start → Tables
 lent s = tables (s .args .accounts .now) (s .args .counters .now) (s .args .pays .now)
 
 -- what is known at the entry, once it is known what comes next
-stands : (s : tie.Start) {n : Next} → s .args .r .next ≡ n → Stood n (s .args .r) (s .args .chunk .now) (s .args .buf .now) (lent s) (s .args .out .now)
-stands s e = subst (λ (k : Next). Stood k (s .args .r) (s .args .chunk .now) (s .args .buf .now) (lent s) (s .args .out .now)) e (s .pre .1)
+stands : (s : tie.Start) {n : Next} → s .args .r .next ≡ n → SoFar n (s .args .r) (s .args .chunk .now) (s .args .buf .now) (lent s) (s .args .out .now)
+stands s e = subst (λ (k : Next). SoFar k (s .args .r) (s .args .chunk .now) (s .args .buf .now) (lent s) (s .args .out .now)) e (s .pre .1)
 
 -- ---- places on the way
 
@@ -48,7 +48,7 @@ returns c =
     let s = matched (d .before .before .before .before) in
     let b = d .read-on .last .0 in
     let k = d .read-on .ensures in
-    subst (λ (x : Run). Stood (x .next) x b (s .args .buf .now) (lent s) (s .args .out .now)) (sym (k .is))
+    subst (λ (x : Run). SoFar (x .next) x b (s .args .buf .now) (lent s) (s .args .out .now)) (sym (k .is))
     (stood-taken b (k .got) (stands s (d .before .before .enum-told .given .1)))
 
 enum-told-2 : tie.Need-enum-told-2

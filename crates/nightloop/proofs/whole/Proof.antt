@@ -1,7 +1,7 @@
 -- `nightloop::whole` meets its contract: the invariant: the session so far, in the memory as it was lent. The measure is how many steps may follow.
 use Rattle.nightloop.proofs.Steps.{stood-first, step-left}
 use Rattle.nightloop.specs.declared.Next.the-variants as N
-use Rattle.nightloop.specs.Steps.{Memory, runOf, Stood}
+use Rattle.nightloop.specs.Steps.{Memory, runOf, SoFar}
 use Rattle.desk.specs.declared.State.{State}
 use Rattle.tables.specs.Layout.{tables}
 use Prim.Native.Nat.{_<_}
@@ -13,7 +13,7 @@ use Rattle.nightloop.proofs.whole.Tie as tie
 
 abbrev Inv-loop : tie.InvT-loop
 Inv-loop chunk₀ buf₀ counts₀ accounts₀ counters₀ pays₀ out₀ r₀ turns₀ chunk buf counts accounts counters pays out r turns =
-    Memory chunk buf counts (tables accounts counters pays) out × Stood (r .next) r chunk buf (tables accounts counters pays) out
+    Memory chunk buf counts (tables accounts counters pays) out × SoFar (r .next) r chunk buf (tables accounts counters pays) out
 
 abbrev μ-loop : tie.MeasureT-loop
 μ-loop chunk₀ buf₀ counts₀ accounts₀ counters₀ pays₀ out₀ r₀ turns₀ chunk buf counts accounts counters pays out r turns = turns
@@ -47,7 +47,7 @@ loop-holds : tie.Need-loop-holds Inv-loop μ-loop
 loop-holds c =
     let s = entered c in
     let t = tables (s .args .accounts .now) (s .args .counters .now) (s .args .pays .now) in
-    (s .pre .0, subst (λ (q : State). Stood N.Read (runOf N.Read 0 q) (s .args .chunk .now) (s .args .buf .now) t (s .args .out .now)) (sym (c .start .ensures)) (stood-first (s .pre .0) (s .pre .1)))
+    (s .pre .0, subst (λ (q : State). SoFar N.Read (runOf N.Read 0 q) (s .args .chunk .now) (s .args .buf .now) t (s .args .out .now)) (sym (c .start .ensures)) (stood-first (s .pre .0) (s .pre .1)))
 
 goes-on-requires : tie.Need-goes-on-requires Inv-loop μ-loop
 goes-on-requires c κs = search needs

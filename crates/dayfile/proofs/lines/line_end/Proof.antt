@@ -4,7 +4,7 @@ use mathlib.Core.Path.{_≡_, subst}
 use Prim.Native.Nat.{_+_, _≤_, _-_}
 use native.Mathlib.Omega.{arith}
 use lib.ListN.{length}
-use Rattle.dayfile.specs.Chunks.{block}
+use Rattle.dayfile.specs.Chunks.{stride}
 use Rattle.dayfile.proofs.Eating.{NoEnd, no-end-yet, end-within, no-end-part, end-found}
 use Rattle.dayfile.proofs.lines.line_end.Statement.{statement}
 use Rattle.dayfile.proofs.lines.line_end.Tie as tie
@@ -42,7 +42,7 @@ add-result c = search needs
 returns : tie.Need-returns Inv-loop μ-loop
 returns c =
     let l = c .before .before .before .before .loop in
-    end-found (l .i + block - l .i) (l .inv .1) (c .before .end-in .ensures) (omega arith) (λ q. omega arith)
+    end-found (l .i + stride - l .i) (l .inv .1) (c .before .end-in .ensures) (omega arith) (λ q. omega arith)
 
 add-i : tie.Need-add-i Inv-loop μ-loop
 add-i c = search needs
@@ -55,8 +55,8 @@ loop-again c =
     let t = c .before .before .before .before in
     let l = t .loop in
     let r = c .before .end-in in
-    let e : r .result ≡ block = omega (arith, end-within (l .i + block - l .i) (l .inv .1) (r .ensures), c .if1 .left) in
-    (omega arith, subst (λ k. NoEnd (t .before .before .args .s .now) (l .i + k)) e (no-end-part (l .i + block - l .i) (l .inv .1) (r .ensures)))
+    let e : r .result ≡ stride = omega (arith, end-within (l .i + stride - l .i) (l .inv .1) (r .ensures), c .if1 .left) in
+    (omega arith, subst (λ k. NoEnd (t .before .before .args .s .now) (l .i + k)) e (no-end-part (l .i + stride - l .i) (l .inv .1) (r .ensures)))
 
 sub-end-in-2 : tie.Need-sub-end-in-2 Inv-loop μ-loop
 sub-end-in-2 c = search needs

@@ -3,7 +3,7 @@ use Rattle.desk.proofs.Steps.{line-read, answered-taken, answered-stopp
 use Rattle.desk.specs.declared.State.{State}
 use Rattle.tables.specs.Layout.{Tables, tables}
 use Rattle.dayfile.specs.Lines.{Line}
-use Rattle.dayfile.specs.Chunks.{lineOf, stateOf}
+use Rattle.dayfile.specs.Chunks.{heldLine, stateOf}
 use lib.ListN.{length}
 use mathlib.Core.Path.{ap}
 use borrow.Author.Needs.{needs}
@@ -21,7 +21,7 @@ take-line-requires c κs =
     let i = r .before .before in
     let args = i .before .before .before .before .before in
     let s = args .before .before in
-    let l : Line = lineOf (stateOf (s .args .buf .now) (s .args .s .cut)) in
+    let l : Line = heldLine (stateOf (s .args .buf .now) (s .args .s .cut)) in
     (s .pre .0 .0, line-read l (r .read .ensures), i .if1 .taken, s .pre .1 .2)
 
 same-length : tie.Need-same-length
@@ -49,7 +49,7 @@ returns c =
     let args = i .before .before .before .before .before in
     let s = args .before .before in
     let t : Tables = tables (s .args .accounts .now) (s .args .counters .now) (s .args .pays .now) in
-    let l : Line = lineOf (stateOf (s .args .buf .now) (s .args .s .cut)) in
+    let l : Line = heldLine (stateOf (s .args .buf .now) (s .args .s .cut)) in
     (answered-taken (s .args .s) t (s .args .out .now) l (s .pre .0 .1) _ (i .if1 .taken) (r .read .ensures) (d .take-line .ensures .0), d .take-line .ensures .1)
 
 add-stop : tie.Need-add-stop
@@ -67,7 +67,7 @@ returns-2 c =
     let z = y .before .before .before .before .before in
     let s = z .before .before .before .before .before in
     let t : Tables = tables (s .args .accounts .now) (s .args .counters .now) (s .args .pays .now) in
-    let l : Line = lineOf (stateOf (s .args .buf .now) (s .args .s .cut)) in
+    let l : Line = heldLine (stateOf (s .args .buf .now) (s .args .s .cut)) in
     let r = y .stop in (
       answered-stopped (s .args .s) t (s .args .out .now) l (s .pre .0 .1) (r .result) _ (omega arith) (r .ensures .0) (r .ensures .1),
       (

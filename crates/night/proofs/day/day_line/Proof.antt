@@ -1,6 +1,6 @@
 -- `night::day::day_line` meets its contract: no loop; each kind of line is a case.
 use mathlib.Core.Path.{ap}
-use Rattle.night.specs.Lines.{lineOf}
+use Rattle.night.specs.Lines.{saysOf}
 use Rattle.night.proofs.Found.{read-counts}
 use borrow.Author.Needs.{needs}
 use Rattle.night.proofs.day.day_line.Statement.{statement}
@@ -54,7 +54,7 @@ returns-2 c =
     let u = c .before .before .before .before .before in
     let r = u .before in
     let e = r .before .before .before .before .before in
-    rw (c .says .ensures, e .e .given .1) (ap lineOf (r .call .ensures))
+    rw (c .says .ensures, e .e .given .1) (ap saysOf (r .call .ensures))
 
 returns-3 : tie.Need-returns-3
 returns-3 c = rw (c .quiet .ensures, c .before .enum-told2 .given .1)
