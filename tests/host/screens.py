@@ -2,7 +2,8 @@
 """Types nights at a pseudo-terminal and compares the screen: screens.py [--store] BIN FILE..
 
 A FILE.screen is a whole screen; of a FILE.md the indented blocks that begin with `$ ` are taken, one after the other. `$ COMMAND` is run by
-sh in an empty folder of its own, with BIN first on the PATH, and what stands behind a prompt is typed there: `^D` and `^C` are the keys.
+sh in an empty folder of its own, with BIN first on the PATH, and what stands behind a prompt is typed there: `^D` and `^C` are the keys;
+nothing is typed where a pipe gives the lines.
 --store writes the screens as they came out. Prints a line for each that differs, and at the end 'N passed, M failed'.
 """
 import difflib, os, pty, re, select, signal, sys, tempfile, time
@@ -11,6 +12,11 @@ PROMPT = re.compile(r"(?:(?:^|\n)(?:member \d+ )?> |\(y/n\) )$")
 TYPED = re.compile(r"^(?:member \d+ )?> (.*)$|\(y/n\) (.*)$")
 KEYS = {"^D": b"\x04", "^C": b"\x03"}
 PATIENCE = 20
+
+
+def piped(command):
+    """Whether the program's lines come from a pipe: then nothing is typed, though it prompts."""
+    return "|" in command
 
 
 def run(command, typed, folder, status):
@@ -35,7 +41,7 @@ def run(command, typed, folder, status):
             said += "^D" if word == "^D" else ""  # the one key that no terminal shows
             mark = len(said)
             os.write(screen, KEYS.get(word, word.encode() + b"\n"))
-        elif time.time() - last > (1 if PROMPT.search(said) and not typed else PATIENCE):
+        elif time.time() - last > (1 if PROMPT.search(said) and not typed and not piped(command) else PATIENCE):
             os.kill(pid, signal.SIGKILL)
     os.close(screen)
     status = os.waitstatus_to_exitcode(os.waitpid(pid, 0)[1])
@@ -47,7 +53,7 @@ def replay(text, folder, status=0):
     commands, out = re.split(r"^\$ ", text, flags=re.M)[1:], ""
     for command in commands:
         first, _, rest = command.partition("\n")
-        typed = [next(w for w in m.groups() if w is not None) for m in map(TYPED.search, rest.split("\n")) if m]
+        typed = [next(w for w in m.groups() if w is not None) for m in map(TYPED.search, rest.split("\n")) if m and not piped(first)]
         said, status = run(first, typed, folder, status)
         out += f"$ {first}\n{said}" + ("" if said.endswith("\n") or not said else "\n")
     return out, status
