@@ -24,6 +24,14 @@ for path in $(grep -hoE '`(\./)?[a-z.]+/[A-Za-z0-9_./-]*`' README.md docs/*.md |
     check "no $path in the project" test -e "$path"
 done
 
+# ---- edits
+
+# Each edit says in one form of words what is so, and what refuses the program in which it is not; the gate's list names edits that are there.
+for edit in tests/edits/*/*.edit; do
+    check "$edit: its first line is not '# .. : refused by \`NAME\`.'" sh -c "head -n 1 '$edit' | grep -qE '^# .+: refused by \`[^\`]+\`\.\$'"
+done
+for edit in $(grep -v '^#' tests/edits/gate); do check "tests/edits/gate names $edit, which is not there" test -f "tests/edits/$edit.edit"; done
+
 # ---- the crates' numbers
 
 # The constants of a source file as shell words, with PREFIX before each name: numbers, and sums and products of those before.

@@ -36,7 +36,7 @@ use Rattle.answers.proofs.Outcomes.{held-bad}
 use Rattle.opening.specs.Open.{openAct}
 use Rattle.booking.specs.Booking.{listed}
 use Rattle.resolving.specs.Resolve.{resolveAct, largestIn, stillWaits}
-use Rattle.words.specs.Row.{putRow, plain}
+use Rattle.words.specs.Row.{putRow, asItIs}
 use Rattle.lent.specs.Bytes.{tablesIn, accountsIn, signedIn, roomy}
 use Rattle.lent.specs.Reply.{Lent}
 use Rattle.lent.specs.Asks.{answerParts, Ask, opens, resolves, replied, least}
@@ -127,7 +127,7 @@ tables-settle c T e = (toldIn T, ap (λ a. a .0) (resolve-answers c T e), resolv
 
 -- bytes: so does one with code 0, and the verdict is the first part of the answer
 pub bytes-settles : {s t : List ℕ} (c : HostCall resolves 0 s t) → Stands s
-    → (x : Resolution) × (c .answer′ ≡ putRow plain 8 (c .answer) 0 (answerParts x)) × Settles (tablesIn s) (tablesIn t) (verdictNumber (x .verdict))
+    → (x : Resolution) × (c .answer′ ≡ putRow asItIs 8 (c .answer) 0 (answerParts x)) × Settles (tablesIn s) (tablesIn t) (verdictNumber (x .verdict))
 bytes-settles {s} c h = (toldIn (tablesIn s), bytes-answer c, bytes-settle c h)
 
 -- day files: so does a `resolve` line, which prints the verdict

@@ -22,7 +22,7 @@ use Rattle.answers.specs.declared.Resolved.the-variants.{Done}
 use Rattle.answers.proofs.Outcomes.{judgement-fine}
 use Rattle.resolving.specs.Resolve.{resolveAct, largestIn, told}
 use Rattle.resolving.proofs.Resolves.{largest-is, largest-books, resolve-verdict}
-use Rattle.words.specs.Row.{putRow, plain}
+use Rattle.words.specs.Row.{putRow, asItIs}
 use Rattle.lent.specs.Bytes.{tablesIn, countsIn, roomy}
 use Rattle.lent.specs.Reply.{Lent, lends, written, onBytes}
 use Rattle.lent.specs.Asks.{toldResolved, answerParts, resolves}
@@ -78,11 +78,11 @@ module _ {s t : List ℕ} (c : HostCall resolves 0 s t) where
   bytes-fine = called-accepted K 48 toldResolved (λ r. refl) (lends s (c .counts) (c .answer)) (c .promise) .fine
 
   -- what the answer's bytes hold
-  pub bytes-answer : c .answer′ ≡ putRow plain 8 (c .answer) 0 (answerParts (toldIn (tablesIn s)))
+  pub bytes-answer : c .answer′ ≡ putRow asItIs 8 (c .answer) 0 (answerParts (toldIn (tablesIn s)))
   bytes-answer = go (roomy (length s) (length (c .answer)) 48) (c .promise)
     where
       go : (b : Bool) → (0, lends t (c .counts′) (c .answer′)) ≡ cond b (onBytes toldResolved (called K) (lends s (c .counts) (c .answer))) (1, lends s (c .counts) (c .answer))
-          → c .answer′ ≡ putRow plain 8 (c .answer) 0 (answerParts (toldIn (tablesIn s)))
+          → c .answer′ ≡ putRow asItIs 8 (c .answer) 0 (answerParts (toldIn (tablesIn s)))
       go true e =
           let a : called K (tablesIn s) .answer ≡ (Done (toldIn (tablesIn s)), largestIn (tablesIn s)) = resolve-answers (countsIn (c .counts)) (tablesIn s) bytes-fine in
           ap (λ (r : ℕ × Lent). r .1 .answer) e

@@ -6,7 +6,7 @@ use mathlib.Core.List.{List}
 use Prim.Native.Nat.{ℕ, _*_, _≤_}
 use native.Mathlib.Omega.{arith}
 use lib.ListN.{length, getD}
-use Rattle.words.specs.Row.{plain}
+use Rattle.words.specs.Row.{asItIs}
 use Rattle.words.proofs.Row.{length-putRow, putRow-outside}
 use Rattle.tables.specs.Sizes.{bytes}
 use Rattle.tables.specs.Layout.{Tables}
@@ -61,8 +61,8 @@ module _ (x : Lent) (n : ℕ) where
   written-past : (W : Tables) (w : Told) → Least W → Within n w → Past n x (written x W w .1)
   written-past W (yes c p) l h = record {
     tables = record { long = stored-long (x .tables) W; bytes = stored-past (x .tables) W l };
-    counts = length-putRow plain 2 (x .counts) 0 c;
-    answer = record { long = length-putRow plain 8 (x .answer) 0 p; bytes = λ k q. putRow-outside plain 8 (x .answer) 0 p k (inr (omega arith)) };
+    counts = length-putRow asItIs 2 (x .counts) 0 c;
+    answer = record { long = length-putRow asItIs 8 (x .answer) 0 p; bytes = λ k q. putRow-outside asItIs 8 (x .answer) 0 p k (inr (omega arith)) };
   }
   written-past W (no r) l h = same-past n x
 

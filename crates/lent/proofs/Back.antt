@@ -11,7 +11,7 @@ use mir.Syntax.{w64}
 use mir.Val.{SFits, toZ, ofZ}
 use Rattle.rule.specs.Payment.{amountOf}
 use Rattle.rule.proofs.Ints.{ints, ≤ℤ-is}
-use Rattle.words.specs.Row.{putRow, plain}
+use Rattle.words.specs.Row.{putRow, asItIs}
 use Rattle.words.proofs.Row.{length-row, length-putRow, putRow-outside, row-putRow, row-back-plain, row-back-signed, row-below}
 use Rattle.tables.specs.Sizes.{members, places, table, bytes, mostLine}
 use Rattle.tables.specs.Layout.{Tables, membersIn, waitingIn, lineOf, linesAt, spareAccountsAt, spareSinglesAt, lastsAt, settledAt, spareCountersAt}
@@ -25,8 +25,8 @@ use Rattle.lent.specs.Stands.{Least, Kept}
 pub least-in : (s : List ℕ) → Least (tablesIn s)
 least-in s = record {
   accounts = length-row (toZ w64) 8 table s 0;
-  counters = length-row plain 4 table s countersFrom;
-  pays = length-row plain 8 places s placesFrom;
+  counters = length-row asItIs 4 table s countersFrom;
+  pays = length-row asItIs 8 places s placesFrom;
 }
 
 -- and their numbers fit: 64 bits with a sign, 32 bits, 64 bits
@@ -41,39 +41,39 @@ module _ (s : List ℕ) (T : Tables) where
   a = putRow (ofZ w64) 8 s 0 (T .accounts)
 
   abbrev c : List ℕ
-  c = putRow plain 4 a countersFrom (T .counters)
+  c = putRow asItIs 4 a countersFrom (T .counters)
 
   -- the tables stay as long,
   pub stored-long : length (withTables s T) ≡ length s
-  stored-long = length-putRow plain 8 c placesFrom (T .pays) ∙ length-putRow plain 4 a countersFrom (T .counters) ∙ length-putRow (ofZ w64) 8 s 0 (T .accounts)
+  stored-long = length-putRow asItIs 8 c placesFrom (T .pays) ∙ length-putRow asItIs 4 a countersFrom (T .counters) ∙ length-putRow (ofZ w64) 8 s 0 (T .accounts)
 
   -- with each byte past the least length as it was,
   pub stored-past : Least T → (k : ℕ) → bytes ≤ k → getD (withTables s T) k 0 ≡ getD s k 0
   stored-past l k q =
-      putRow-outside plain 8 c placesFrom (T .pays) k (inr (omega (arith, l .pays)))
-      ∙ putRow-outside plain 4 a countersFrom (T .counters) k (inr (omega (arith, l .counters)))
+      putRow-outside asItIs 8 c placesFrom (T .pays) k (inr (omega (arith, l .pays)))
+      ∙ putRow-outside asItIs 4 a countersFrom (T .counters) k (inr (omega (arith, l .counters)))
       ∙ putRow-outside (ofZ w64) 8 s 0 (T .accounts) k (inr (omega (arith, l .accounts)))
 
   module _ (h : Fits T) (room : bytes ≤ length s) where
     -- and the lists are read back: the accounts,
     pub accounts-back : accountsIn (withTables s T) ≡ T .accounts
     accounts-back =
-        row-putRow (toZ w64) 8 table plain 8 c placesFrom (T .pays) 0 (inl (omega arith))
-        ∙ row-putRow (toZ w64) 8 table plain 4 a countersFrom (T .counters) 0 (inl (omega arith))
+        row-putRow (toZ w64) 8 table asItIs 8 c placesFrom (T .pays) 0 (inl (omega arith))
+        ∙ row-putRow (toZ w64) 8 table asItIs 4 a countersFrom (T .counters) 0 (inl (omega arith))
         ∙ row-back-signed table s 0 (T .accounts) (sym (h .least .accounts)) (omega arith) (λ i l. h .accounts i (omega (arith, h .least .accounts)))
 
     -- the counters,
     pub counters-back : countersIn (withTables s T) ≡ T .counters
     counters-back =
         let l = length-putRow (ofZ w64) 8 s 0 (T .accounts) in
-        row-putRow plain 4 table plain 8 c placesFrom (T .pays) countersFrom (inl (omega arith))
+        row-putRow asItIs 4 table asItIs 8 c placesFrom (T .pays) countersFrom (inl (omega arith))
         ∙ row-back-plain 4 table a countersFrom (T .counters) (sym (h .least .counters)) (omega arith) (λ i q. h .counters i (omega (arith, h .least .counters)))
 
     -- and the places
     pub pays-back : paysIn (withTables s T) ≡ T .pays
     pays-back =
         let l = length-putRow (ofZ w64) 8 s 0 (T .accounts) in
-        let m = length-putRow plain 4 a countersFrom (T .counters) in
+        let m = length-putRow asItIs 4 a countersFrom (T .counters) in
         row-back-plain 8 places c placesFrom (T .pays) (sym (h .least .pays)) (omega arith) (λ i q. h .pays i (omega (arith, h .least .pays)))
 
     pub tables-back : tablesIn (withTables s T) ≡ T

@@ -8,7 +8,7 @@ use mir.Val.{SFits, toZ, ofZ}
 use mir.Facts.{toZ-ofZ}
 use Rattle.tables.specs.Layout.{Tables}
 use Rattle.words.specs.Le.{putAt}
-use Rattle.words.specs.Row.{putRow, plain}
+use Rattle.words.specs.Row.{putRow, asItIs}
 use Rattle.answers.specs.Codes.{codeOf}
 use Rattle.answers.specs.Outcome.{Outcome, outcome}
 use Rattle.answers.specs.declared.Refusal.{Refusal}
@@ -17,12 +17,12 @@ use Rattle.lent.specs.Bytes.{tablesIn, withTables}
 use Rattle.lent.specs.Reply.{Lent, lends, Told, yes, no, written, onBytes}
 
 -- no number is written
-pub put-none : (w : ℕ) (t : List ℕ) → t ≡ putRow plain w t 0 []
+pub put-none : (w : ℕ) (t : List ℕ) → t ≡ putRow asItIs w t 0 []
 unfolding putRow
 put-none w t = refl
 
 -- one signed part
-pub put-signed : (t : List ℕ) {t′ : List ℕ} {z : ℤ} → SFits w64 z → t′ ≡ putAt 8 t 0 (ofZ w64 (toZ w64 (ofZ w64 z))) → t′ ≡ putRow plain 8 t 0 (ofZ w64 z ∷ [])
+pub put-signed : (t : List ℕ) {t′ : List ℕ} {z : ℤ} → SFits w64 z → t′ ≡ putAt 8 t 0 (ofZ w64 (toZ w64 (ofZ w64 z))) → t′ ≡ putRow asItIs 8 t 0 (ofZ w64 z ∷ [])
 unfolding putRow
 put-signed t f e = rw (toZ-ofZ {w = w64} f) at e
 
@@ -41,7 +41,7 @@ module _ {A : Type 0} (tell : A → Told) (f : Tables → Outcome A) (x : Lent) 
 
   -- it accepted, and all was written,
   pub accepted : {k p s u t : List ℕ} → tell v ≡ yes k p
-      → s ≡ withTables (x .tables) W → u ≡ putRow plain 2 (x .counts) 0 k → t ≡ putRow plain 8 (x .answer) 0 p
+      → s ≡ withTables (x .tables) W → u ≡ putRow asItIs 2 (x .counts) 0 k → t ≡ putRow asItIs 8 (x .answer) 0 p
       → (0, lends s u t) ≡ onBytes tell f x
   accepted q a b c = ap (λ (y : Lent). (0, y)) (lends-same a b c) ∙ ap (written x W) (sym q) ∙ ran
 

@@ -9,7 +9,7 @@ use mir.Syntax.{w64}
 use mir.Val.{toZ, ofZ}
 use Rattle.tables.specs.Sizes.{members, places, table, bytes}
 use Rattle.tables.specs.Layout.{Tables, tables}
-use Rattle.words.specs.Row.{rowAt, putRow, plain}
+use Rattle.words.specs.Row.{rowAt, putRow, asItIs}
 
 -- ---- the tables: the accounts, 8 bytes each, then the counters, 4 bytes each, then the places, 8 bytes each
 
@@ -26,15 +26,15 @@ accountsIn s = rowAt (toZ w64) 8 table s 0
 
 -- the counters
 abbrev pub countersIn : List ℕ → List ℕ
-countersIn s = rowAt plain 4 table s countersFrom
+countersIn s = rowAt asItIs 4 table s countersFrom
 
 -- the places
 abbrev pub paysIn : List ℕ → List ℕ
-paysIn s = rowAt plain 8 places s placesFrom
+paysIn s = rowAt asItIs 8 places s placesFrom
 
 -- the bytes s with the accounts a, the counters c and the places p in them, and no other byte changed
 abbrev pub withLists : List ℕ → List ℤ → List ℕ → List ℕ → List ℕ
-withLists s a c p = putRow plain 8 (putRow plain 4 (putRow (ofZ w64) 8 s 0 a) countersFrom c) placesFrom p
+withLists s a c p = putRow asItIs 8 (putRow asItIs 4 (putRow (ofZ w64) 8 s 0 a) countersFrom c) placesFrom p
 
 -- the three lists in the bytes, and the bytes with three lists in them
 abbrev pub tablesIn : List ℕ → Tables
@@ -56,7 +56,7 @@ entries w n = cond (eqb (n % w) 0 && leb (n / w) members) (n / w) 0
 
 -- the counts in the bytes t, 2 bytes each
 abbrev pub countsIn : List ℕ → List ℕ
-countsIn t = rowAt plain 2 (entries 2 (length t)) t 0
+countsIn t = rowAt asItIs 2 (entries 2 (length t)) t 0
 
 -- the balances or lines in the bytes t, 8 bytes each
 abbrev pub signedIn : List ℕ → List ℤ

@@ -4,7 +4,7 @@ use mathlib.Core.List.{List}
 use Prim.Native.Nat.{ℕ}
 use lib.ListN.{length}
 use Rattle.tables.specs.Layout.{Tables}
-use Rattle.words.specs.Row.{putRow, plain}
+use Rattle.words.specs.Row.{putRow, asItIs}
 use Rattle.answers.specs.Codes.{codeOf}
 use Rattle.answers.specs.Outcome.{Outcome}
 use Rattle.answers.specs.declared.Refusal.{Refusal}
@@ -28,7 +28,7 @@ pub data Told : Type 0 where
 
 -- this is told, and W are the lists after the call: the code, and the bytes. A refusal writes nothing.
 abbrev pub written : Lent → Tables → Told → ℕ × Lent
-written x W (yes k p) = (0, lends (withTables (x .tables) W) (putRow plain 2 (x .counts) 0 k) (putRow plain 8 (x .answer) 0 p))
+written x W (yes k p) = (0, lends (withTables (x .tables) W) (putRow asItIs 2 (x .counts) 0 k) (putRow asItIs 8 (x .answer) 0 p))
 written x W (no r) = (codeOf r, x)
 
 -- on bytes that are long enough, what the house does to the lists in them

@@ -4,7 +4,7 @@ ghost use Prim.Native.Nat.{_*_, _≤_};
 ghost use lib.ListN.{length, take};
 ghost use mir.Syntax.{w64};
 ghost use mir.Val.{toZ};
-ghost use Rattle.words.specs.Row.{rowAt, plain};
+ghost use Rattle.words.specs.Row.{rowAt, asItIs};
 ghost use Rattle.tables.specs.Sizes.{members, places, table, bytes};
 ghost use Rattle.lent.specs.Bytes.{accountsIn, countersIn, paysIn, withLists, roomy, entries};
 use tables::House;
@@ -86,7 +86,7 @@ pub fn entries_of(bytes: usize, width: usize) -> usize
 // The counts in lent bytes, n of them; what stands behind them is 0.
 pub fn counts_of(t: &[u8], n: usize) -> [u16; House::MEMBERS]
     requires { ⌜ (n ≤ members) × (n * 2 ≤ length (now t)) ⌝ }
-    ensures { λ r. ⌜ (take n r ≡ rowAt plain 2 n (now (t .entry)) 0) × (members ≡ length r) ⌝ }
+    ensures { λ r. ⌜ (take n r ≡ rowAt asItIs 2 n (now (t .entry)) 0) × (members ≡ length r) ⌝ }
 {
     let mut k = [0u16; House::MEMBERS];
     words::rows::decode_u16(t, 0, &mut k[..n]);

@@ -12,7 +12,7 @@ use mir.Val.{SFits, toZ, ofZ}
 use mir.Facts.{toZ-ofZ, fits-ofZ}
 use Rattle.words.proofs.Number.{length-put, put-outside, same-bytes, read-put, below}
 use Rattle.words.specs.Le.{leAt, putAt}
-use Rattle.words.specs.Row.{rowAt, putRow, plain}
+use Rattle.words.specs.Row.{rowAt, putRow, asItIs}
 
 module _ {A : Type 0} (f : ℕ → A) (w : ℕ) where
   -- A row that is read has as many values as were asked for.
@@ -39,8 +39,8 @@ module _ {A : Type 0} (f : ℕ → A) (w : ℕ) where
       ap₂ _∷_ (ap f (same-bytes w s t at (λ k p q. h k p (omega arith)))) (same-row n s t (at + w) (λ k p q. h k (omega arith) (omega arith)))
 
 -- A row of unsigned numbers that is read has only such as w bytes hold.
-pub row-below : (w n : ℕ) (s : List ℕ) (at i : ℕ) → ((k : ℕ) → getD s k 0 < 256) → i < n → getD (rowAt plain w n s at) i 0 < 256 ^ w
-row-below w n s at i h l = rw (getD-row plain w n s at i 0 l) (below w s (at + i * w) h)
+pub row-below : (w n : ℕ) (s : List ℕ) (at i : ℕ) → ((k : ℕ) → getD s k 0 < 256) → i < n → getD (rowAt asItIs w n s at) i 0 < 256 ^ w
+row-below w n s at i h l = rw (getD-row asItIs w n s at i 0 l) (below w s (at + i * w) h)
 
 module _ {A : Type 0} (g : A → ℕ) (w : ℕ) where
   -- Writing keeps the length.
@@ -92,8 +92,8 @@ module _ {A : Type 0} (f : ℕ → A) (g : A → ℕ) (w : ℕ) (d : A) where
 
 -- So are unsigned numbers, each below 256 ^ w.
 pub row-back-plain : (w n : ℕ) (s : List ℕ) (at : ℕ) (xs : List ℕ) → n ≡ length xs → at + n * w ≤ length s → ((i : ℕ) → i < length xs → getD xs i 0 < 256 ^ w)
-    → rowAt plain w n (putRow plain w s at xs) at ≡ xs
-row-back-plain w n s at xs e room h = row-back plain plain w 0 n s at xs e room (record { fits = h; back = λ i l. refl })
+    → rowAt asItIs w n (putRow asItIs w s at xs) at ≡ xs
+row-back-plain w n s at xs e room h = row-back asItIs asItIs w 0 n s at xs e room (record { fits = h; back = λ i l. refl })
 
 -- So are signed numbers, each of 64 bits.
 pub row-back-signed : (n : ℕ) (s : List ℕ) (at : ℕ) (xs : List ℤ) → n ≡ length xs → at + n * 8 ≤ length s → ((i : ℕ) → i < length xs → SFits w64 (getD xs i (pos 0)))

@@ -15,5 +15,5 @@ module _ {A : Type 0} where
   putRow g w s at (x ∷ xs) = putRow g w (putAt w s at (g x)) (at + w) xs
 
 -- An unsigned number stands for itself.
-abbrev pub plain : ℕ → ℕ
-plain n = n
+abbrev pub asItIs : ℕ → ℕ
+asItIs n = n

@@ -3,7 +3,7 @@ use mathlib.Core.Path.{sym}
 use native.Mathlib.Omega.{arith}
 use lib.ListN.{replicate}
 use lib.Seq.{length-take-le}
-use Rattle.words.specs.Row.{plain}
+use Rattle.words.specs.Row.{asItIs}
 use Rattle.tables.specs.Sizes.{members}
 use Rattle.lent.proofs.Lengths.{part-read}
 use borrow.Author.Needs.{needs}
@@ -22,7 +22,7 @@ decode-u16-requires c κs = rw (sym (slice-aggregate-decode-u16 c)) (omega (arit
 returns : tie.Need-returns
 returns c =
     let s = c .before .before .before .before in
-    part-read plain 2 (s .args .n) (s .args .t .now) (replicate members 0) _ (s .pre .0) (c .before .decode-u16 .ensures)
+    part-read asItIs 2 (s .args .n) (s .args .t .now) (replicate members 0) _ (s .pre .0) (c .before .decode-u16 .ensures)
 
 pub counts-of-spec : {M : Type 1} → statement M
 counts-of-spec =

@@ -5,7 +5,7 @@ use mathlib.Core.List.{[]}
 use native.Mathlib.Omega.{arith}
 use lib.ListN.{length, take}
 use lib.Seq.{length-take-le}
-use Rattle.words.specs.Row.{rowAt, plain}
+use Rattle.words.specs.Row.{rowAt, asItIs}
 use Rattle.tables.proofs.Tests.{flag-no, flag-yes}
 use Rattle.answers.specs.Outcome.{called}
 use Rattle.settling.specs.Group.{groupAct}
@@ -26,7 +26,7 @@ long c = flag-yes (c .before .is-roomy .ensures) (c .if1 .left)
 
 -- and the counts are those in the bytes
 given : (c : tie.After-counts-of) → take (c .before .entries-of .result) (c .counts-of .result) ≡ countsIn (start (c .before .before) .args .counts .now)
-given c = c .counts-of .ensures .0 ∙ ap (λ n. rowAt plain 2 n (start (c .before .before) .args .counts .now) 0) (c .before .entries-of .ensures .0)
+given c = c .counts-of .ensures .0 ∙ ap (λ n. rowAt asItIs 2 n (start (c .before .before) .args .counts .now) 0) (c .before .entries-of .ensures .0)
 
 is-roomy-requires : tie.Need-is-roomy-requires
 is-roomy-requires c κs = search needs

@@ -4,7 +4,7 @@ use mathlib.Core.Bool.{true}
 use native.Mathlib.Omega.{arith}
 use lib.ListN.{length, take}
 use lib.Seq.{length-take-le}
-use Rattle.words.specs.Row.{rowAt, plain}
+use Rattle.words.specs.Row.{rowAt, asItIs}
 use Rattle.tables.proofs.Tests.{flag-no, flag-yes}
 use Rattle.answers.specs.Outcome.{called}
 use Rattle.resolving.specs.Resolve.{resolveAct}
@@ -27,7 +27,7 @@ long c = flag-yes (c .before .is-roomy .ensures) (c .if1 .left)
 given : (c : tie.After-counts-of) → take (c .before .before .entries-of .result) (c .counts-of .result) ≡ countsIn (start (c .before .before .before) .args .counts .now)
 given c =
     let n = c .before .before .entries-of in
-    c .counts-of .ensures .0 ∙ ap (λ m. rowAt plain 2 m (start (c .before .before .before) .args .counts .now) 0) (n .ensures .0)
+    c .counts-of .ensures .0 ∙ ap (λ m. rowAt asItIs 2 m (start (c .before .before .before) .args .counts .now) 0) (n .ensures .0)
 
 is-roomy-requires : tie.Need-is-roomy-requires
 is-roomy-requires c κs = search needs
