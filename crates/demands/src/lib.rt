@@ -1,1 +1,2 @@
 // The demands of the tender, on one page: proofs/Demands.antt. There is no code.
+#![tactic(auto)]

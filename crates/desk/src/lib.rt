@@ -1,4 +1,5 @@
 // A line of the night, with lent lists: the next line of a chunk is read and answered, or the next line of the end is said, into a lent output.
+#![tactic(auto)]
 pub mod chunks;
 pub mod ends;
 pub mod lines;

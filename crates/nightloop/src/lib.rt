@@ -1,5 +1,6 @@
 // The loop of a program that reads a day file on standard input and writes its sheet on standard output, step by step. What is said stands
 // there before more input is awaited.
+#![tactic(auto)]
 ghost use Rattle.std.specs.Prelude.{◌≡◌, cond, ◌&&◌, ◌≤◌, ltb, pos, length, take};
 ghost use Rattle.std.specs.Int.Signed.{lt_z};
 ghost use Rattle.tables.specs.Layout.{tables};

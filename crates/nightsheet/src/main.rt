@@ -1,4 +1,5 @@
 // Reads a day file on standard input and writes its sheet on standard output.
+#![tactic(auto)]
 use tables::House;
 
 fn main() {

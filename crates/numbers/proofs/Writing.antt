@@ -89,6 +89,7 @@ width_low (suc f) x h = by-ltb x 10 (λ w. 10 ^ (cond w 1 (suc (width_up_to f (x
 width-le : (f x k : ℕ) → 0 < k → x < 10 ^ k → width_up_to f x ≤ k
 unfolding width_up_to
 width-le zero x k h b = omega arith
+width-le (suc f) x zero h b = elim h [ ]
 width-le (suc f) x (suc zero) h b = by-ltb x 10 (λ w. cond w 1 (suc (width_up_to f (x / 10))) ≤ 1) (λ l. omega arith) (λ l. omega arith)
 width-le (suc f) x (suc (suc k)) h b = by-ltb x 10 (λ w. cond w 1 (suc (width_up_to f (x / 10))) ≤ suc (suc k)) (λ l. omega arith)
     (λ l. let c : x < 10 ^ (suc k) * 10 = rw pow-suc at b in omega (arith, width-le f (x / 10) (suc k) (omega arith) (omega arith)))

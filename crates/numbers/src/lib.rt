@@ -1,4 +1,6 @@
 // Numbers in text: read from a field of the day file, and written into the sheet.
+#![tactic(auto)]
+
 ghost use Rattle.std.specs.Prelude.{◌≡◌, ◌+◌, ◌≤◌, ◌<◌, ◌^◌, nat_abs, length};
 ghost use Rattle.std.proofs.lemmas.List.Edits.{sets};
 ghost use Rattle.numbers.specs.Numbers.{most_digits, number_of, signed_of, digits_of, width_of, SmallOf, from_zero, below_zero, signed_text};

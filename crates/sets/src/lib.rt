@@ -1,4 +1,6 @@
 // A set of members as one number, in which member i counts as 2^(i - 1): how many stand in it, and the lowest.
+#![tactic(auto)]
+
 ghost use Rattle.std.specs.Prelude.{◌≡◌};
 ghost use Rattle.std.specs.Int.Count.{ones};
 ghost use Rattle.sets.specs.Sets.{lowest_in};

@@ -1,0 +1,38 @@
+use native.Mathlib.Omega.{arith}
+use borrow.Author.Rules.{rules}
+use mathlib.Core.Path.{◌≡◌, refl, sym, ap, ◌∙◌}
+use mathlib.Core.Logic.{⊎_elim}
+use Prim.Native.Nat.{◌≤◌, ◌+◌}
+use lib.ListN.{length, length-set}
+use lib.Seq.{sets}
+use Rattle.numbers.specs.Numbers.{last_digits, width_of, digits_of}
+use Rattle.numbers.proofs.Writing.{put_two, put_one, put-end, length_digits}
+use Rattle.numbers.proofs.put_number.Goals as goal
+
+pub loop-k-init : goal.loop-k-init
+loop-k-init c = let e = c.width-w.ensures in
+    let l = length_digits (width_of c.args.x) c.args.x in
+    (omega arith, e, omega (arith, c.requires), refl, rw e)
+
+pub bounds-out-at-in-loop-k : goal.bounds-out-at-in-loop-k
+bounds-out-at-in-loop-k c = simp length-set (omega arith)
+
+pub loop-k-preserved : goal.loop-k-preserved
+loop-k-preserved c = let l = c.loop-k in
+    let a = c.args in
+    (omega arith, l.invariant.1, l.invariant.2, simp length-set l.invariant.3, put_two l.out a.at l.k l.y (omega arith) ∙ l.invariant.4)
+
+pub shape_of-out : goal.shape_of-out
+shape_of-out c = let l = c.loop-k in
+    ⊎_elim (λ w. ap length w.1 ∙ simp length-set l.invariant.3) (λ w. ap length w.1 ∙ l.invariant.3) c.if-k-gt0.branch
+
+pub returns : goal.returns
+returns c = let l = c.loop-k in
+    let a = c.args in
+    let t = c.loop-k-test.false in (
+      omega (arith, length_digits (width_of a.x) a.x),
+      ⊎_elim
+          (λ w. let e : l.k ≡ 1 = omega (arith, w.0.taken) in w.1 ∙ put_one l.out a.at l.k l.y e ∙ l.invariant.4)
+          (λ w. w.1 ∙ sym (put-end l.out a.at l.k l.y (omega (arith, w.0.left))) ∙ l.invariant.4)
+          c.if-k-gt0.branch,
+    )

@@ -1,0 +1,16 @@
+-- `words::rows::decode_i64` meets its contract. The loop's invariant: the first i numbers are filled in. The measure is how many are left.
+use borrow.Author.Rules.{rules}
+use native.Mathlib.Omega.{arith}
+use mathlib.Core.Path.{◌∙◌}
+use Prim.Native.Nat.{◌-◌}
+use mir.Syntax.{w64}
+use mir.Val.{to_z}
+use mir.Facts.{to_z-of_z}
+use Rattle.words.proofs.RowTurns.{Filling, fill_start, fill-turn, fill_end}
+use Rattle.words.proofs.rows.decode_i64.Given as goal
+
+abbrev pub invariant-loop-i : goal.invariant-loop-i
+invariant-loop-i l = Filling (to_z w64) 8 l.s l.at l.initial.out l.out l.i
+
+abbrev pub decreases-loop-i : goal.decreases-loop-i
+decreases-loop-i l = l.i-end - l.i

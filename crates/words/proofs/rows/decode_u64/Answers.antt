@@ -1,0 +1,15 @@
+use borrow.Author.Rules.{rules}
+use native.Mathlib.Omega.{arith}
+use Prim.Native.Nat.{◌-◌}
+use Rattle.words.proofs.RowTurns.{Filling, fill_start, fill-turn, fill_end}
+use Rattle.words.specs.Row.{as_it_is}
+use Rattle.words.proofs.rows.decode_u64.Goals as goal
+
+pub loop-i-init : goal.loop-i-init
+loop-i-init c = fill_start
+
+pub loop-i-preserved : goal.loop-i-preserved
+loop-i-preserved c = fill-turn c.loop-i.invariant (omega arith) c.read_u64.ensures
+
+pub returns : goal.returns
+returns c = fill_end c.loop-i.invariant (omega arith)

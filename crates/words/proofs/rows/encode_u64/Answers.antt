@@ -1,0 +1,15 @@
+use borrow.Author.Rules.{rules}
+use native.Mathlib.Omega.{arith}
+use Prim.Native.Nat.{◌-◌}
+use Rattle.words.proofs.RowTurns.{Writing, write-start, write-turn, write-end}
+use Rattle.words.specs.Row.{as_it_is}
+use Rattle.words.proofs.rows.encode_u64.Goals as goal
+
+pub loop-i-init : goal.loop-i-init
+loop-i-init c = write-start
+
+pub loop-i-preserved : goal.loop-i-preserved
+loop-i-preserved c = write-turn 0 c.loop-i.invariant (omega arith) c.write_u64.ensures
+
+pub returns : goal.returns
+returns c = write-end c.loop-i.invariant (omega arith)
