@@ -258,7 +258,7 @@ fn pass_end(used: usize, more: u32) -> usize
 
 // Closes a gap of so many places at the front: the rest moves down, and the places behind it are 0.
 fn close_gap(s: &mut [u64], gap: usize)
-    requires* { do ⌜ gap ≤ (← ⟦s.len()⟧) ⌝ }
+    requires { gap ≤ length s.old }
     ensures { s.new ≡ drop gap s.old ++ replicate gap 0 }
 {
     if gap == 0 {

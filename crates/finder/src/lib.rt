@@ -206,7 +206,7 @@ fn transfer(positions: &mut [i64], giver: usize, taker: usize, amount: u64)
 
 // One position changes by an amount.
 fn add(positions: &mut [i64], member: usize, by: i64)
-    requires* member_bound { do ⌜ member < (← ⟦positions.len()⟧) ⌝ }
+    requires member_bound { member < length positions.old }
     requires by_bound { far by ≤ far_amount }
     requires pos_bound { far (get_or positions.old member (pos 0)) ≤ far_position + far_amount }
     ensures { positions.new ≡ added positions.old member by }

@@ -69,11 +69,11 @@ impl House {
 
 // The definitions' numbers are the code's, and the least lengths are within 64 KiB.
 pub fn tied()
-    ensures* fact { do ⌜ ((← (⟦House::MEMBERS⟧).entry) ≡ members) × ((← (⟦House::PLACES⟧).entry) ≡ places) × ((← (⟦House::TABLE⟧).entry) ≡ table) ⌝ }
-    ensures* fact_2 { do ⌜ ((← (⟦House::MOST⟧).entry) ≡ most) × ((← (⟦House::HIGHEST⟧).entry) ≡ highest) × ((← (⟦House::LAST_NUMBER⟧).entry) ≡ last_number) ⌝ }
-    ensures* fact_3 { do ⌜ ((← (⟦House::MOST_AMOUNT⟧).entry) ≡ most_amount) × ((← (⟦House::MOST_LINE⟧).entry) ≡ most_line) ⌝ }
-    ensures* fact_4 { do ⌜ ((← (⟦House::LINES_AT⟧).entry) ≡ lines_at) × ((← (⟦House::SPARE_ACCOUNTS_AT⟧).entry) ≡ spare_accounts_at) × ((← (⟦House::SPARE_ACCOUNTS⟧).entry) ≡ spare_accounts) ⌝ }
-    ensures* fact_5 { do ⌜ ((← (⟦House::MEMBERS_AT⟧).entry) ≡ members_at) × ((← (⟦House::WAITING_AT⟧).entry) ≡ waiting_at) × ((← (⟦House::SPARE_SINGLES_AT⟧).entry) ≡ spare_singles_at) × ((← (⟦House::SPARE_SINGLES⟧).entry) ≡ spare_singles) ⌝ }
-    ensures* fact_6 { do ⌜ ((← (⟦House::LASTS_AT⟧).entry) ≡ lasts_at) × ((← (⟦House::SETTLED_AT⟧).entry) ≡ settled_at) × ((← (⟦House::SPARE_COUNTERS_AT⟧).entry) ≡ spare_counters_at) × ((← (⟦House::SPARE_COUNTERS⟧).entry) ≡ spare_counters) ⌝ }
-    ensures* fact_7 { do ⌜ ((← (⟦House::BYTES⟧).entry) ≡ bytes) × ((← (⟦House::BYTES⟧).entry) ≤ 65536) ⌝ }
+    ensures sizes { (House.MEMBERS ≡ members) × (House.PLACES ≡ places) × (House.TABLE ≡ table) }
+    ensures limits { (House.MOST ≡ most) × (House.HIGHEST ≡ highest) × (House.LAST_NUMBER ≡ last_number) }
+    ensures amounts { (House.MOST_AMOUNT ≡ most_amount) × (House.MOST_LINE ≡ most_line) }
+    ensures accounts { (House.LINES_AT ≡ lines_at) × (House.SPARE_ACCOUNTS_AT ≡ spare_accounts_at) × (House.SPARE_ACCOUNTS ≡ spare_accounts) }
+    ensures singles { (House.MEMBERS_AT ≡ members_at) × (House.WAITING_AT ≡ waiting_at) × (House.SPARE_SINGLES_AT ≡ spare_singles_at) × (House.SPARE_SINGLES ≡ spare_singles) }
+    ensures counters { (House.LASTS_AT ≡ lasts_at) × (House.SETTLED_AT ≡ settled_at) × (House.SPARE_COUNTERS_AT ≡ spare_counters_at) × (House.SPARE_COUNTERS ≡ spare_counters) }
+    ensures lengths { (House.BYTES ≡ bytes) × (House.BYTES ≤ 65536) }
 {}

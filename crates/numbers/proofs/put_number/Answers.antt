@@ -8,6 +8,7 @@ use lib.Seq.{sets}
 use Rattle.numbers.specs.Numbers.{last_digits, width_of, digits_of}
 use Rattle.numbers.proofs.Writing.{put_two, put_one, put-end, length_digits}
 use Rattle.numbers.proofs.put_number.Goals as goal
+use Rattle.numbers.proofs.put_number.Goals.{then-k-gt0, else-k-gt0}
 
 pub loop-k-init : goal.loop-k-init
 loop-k-init c = let e = c.width-w.ensures in
@@ -24,15 +25,15 @@ loop-k-preserved c = let l = c.loop-k in
 
 pub shape_of-out : goal.shape_of-out
 shape_of-out c = let l = c.loop-k in
-    ⊎_elim (λ w. ap length w.1 ∙ simp length-set l.invariant.3) (λ w. ap length w.1 ∙ l.invariant.3) c.if-k-gt0.branch
+    elim c.if-k-gt0.branch [ then-k-gt0 w ↦ ap length w.out-is ∙ simp length-set l.invariant.3 | else-k-gt0 w ↦ ap length w.out-is ∙ l.invariant.3 ]
 
 pub returns : goal.returns
 returns c = let l = c.loop-k in
     let a = c.args in
     let t = c.loop-k-test.false in (
       omega (arith, length_digits (width_of a.x) a.x),
-      ⊎_elim
-          (λ w. let e : l.k ≡ 1 = omega (arith, w.0.taken) in w.1 ∙ put_one l.out a.at l.k l.y e ∙ l.invariant.4)
-          (λ w. w.1 ∙ sym (put-end l.out a.at l.k l.y (omega (arith, w.0.left))) ∙ l.invariant.4)
-          c.if-k-gt0.branch,
+      elim c.if-k-gt0.branch [
+        | then-k-gt0 w ↦ let e : l.k ≡ 1 = omega (arith, w.if-k-gt0.true) in w.out-is ∙ put_one l.out a.at l.k l.y e ∙ l.invariant.4
+        | else-k-gt0 w ↦ w.out-is ∙ sym (put-end l.out a.at l.k l.y (omega (arith, w.if-k-gt0.false))) ∙ l.invariant.4
+      ],
     )
