@@ -1,9 +1,8 @@
 -- What a test in several parts, or a test that a call answered, says of its parts.
 use mathlib.Core.Path.{◌≡◌, refl, sym, ◌∙◌}
-use mathlib.Core.Bool.{Bool, true, false, not, ◌&&◌, false≢true}
+use mathlib.Core.Bool.{Bool, true, false, ◌&&◌, false≢true}
 use lib.IntN.{ℤ, pos}
 use lib.Signed.{le_z, ◌≤ℤ◌}
-use borrow.Author.Tests.{not-true, not-false}
 use native.Mathlib.Omega.{arith}
 use Rattle.rule.proofs.Ints.{le_of, ≤ℤ-is, eq_of, le_z-true, true-le_z}
 use Rattle.tables.specs.State.{is_zero}
@@ -22,12 +21,12 @@ and-of e f = rw (e, f)
 -- ---- answers
 
 -- the call's answer t, which is the test u, was no,
-pub flag-no : {t u : Bool} → t ≡ u → not t ≡ true → u ≡ false
-flag-no {t} {u} e n = sym e ∙ not-true t n
+pub flag-no : {t u : Bool} → t ≡ u → t ≡ false → u ≡ false
+flag-no e n = sym e ∙ n
 
 -- or yes
-pub flag-yes : {t u : Bool} → t ≡ u → not t ≡ false → u ≡ true
-flag-yes {t} {u} e n = sym e ∙ not-false t n
+pub flag-yes : {t u : Bool} → t ≡ u → t ≡ true → u ≡ true
+flag-yes e n = sym e ∙ n
 
 -- ---- whole numbers
 

@@ -1,5 +1,6 @@
 // The tables that a host lends: the house's fixed numbers, what stands where, and whether lent tables hold a state.
 #![tactic(auto)]
+
 ghost use Rattle.std.specs.Prelude.{◌≡◌, ◌≤◌};
 ghost use Rattle.tables.specs.Sizes.{members, places, table, bytes, most_amount, most_line, most, highest, last_number};
 ghost use Rattle.tables.specs.Layout.{lines_at, spare_accounts_at, spare_accounts, members_at, waiting_at, spare_singles_at, spare_singles, lasts_at, settled_at, spare_counters_at, spare_counters};

@@ -1,0 +1,20 @@
+-- `tables::look::total` meets its contract. The loop's invariant: the sum is that of the first i balances.
+use borrow.Author.Rules.{rules}
+use mathlib.Core.Path.{◌≡◌, refl, ap, ◌∙◌}
+use Prim.Native.Nat.{◌+◌, ◌≤◌, ◌-◌}
+use native.Mathlib.Omega.{arith}
+use native.Mathlib.Numerals.{add-one}
+use lib.IntN.{◌+ℤ◌}
+use mir.Syntax.{w64}
+use mir.Val.{SFits, to_z}
+use Rattle.rule.proofs.Ints.{plain}
+use Rattle.rule.specs.House.{money}
+use Rattle.tables.proofs.Balances.{sum_fits}
+use Rattle.tables.specs.Layout.{balance_of}
+use Rattle.tables.proofs.look.total.Given as goal
+
+abbrev pub invariant-loop-i : goal.invariant-loop-i
+invariant-loop-i l = (l.i ≤ l.n) × (l.sum ≡ money l.i (balance_of l.balances))
+
+abbrev pub decreases-loop-i : goal.decreases-loop-i
+decreases-loop-i l = l.n - l.i
