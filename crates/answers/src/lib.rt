@@ -1,5 +1,6 @@
 // The answers of the calls and their codes, and the conditions that several calls judge.
 #![tactic(auto)]
+
 ghost use Rattle.std.specs.Prelude.{◌≡◌};
 ghost use Rattle.answers.specs.Codes.{code_of};
 ghost use Rattle.answers.specs.Verdicts.{verdict_number};
