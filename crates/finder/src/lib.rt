@@ -2,6 +2,7 @@
 // and of whoever is short then, until none is. Which payments are in is told by the tops: those of a member that stand below its top.
 // A top is 0 or just behind a payment of its member, and the befores lead from each payment to just behind the same payer's before it.
 #![tactic(auto)]
+
 ghost use Rattle.std.specs.Prelude.{◌≡◌, ◌+◌, ◌<◌, ◌≤◌, pos, ◌-ℤ◌, ◌≤ℤ◌, length, get_or};
 ghost use Rattle.std.specs.Int.Signed.{lt_z};
 ghost use Rattle.rule.specs.Payment.{payer_of, payee_of, amount_of};

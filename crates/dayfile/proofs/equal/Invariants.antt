@@ -1,0 +1,15 @@
+-- `dayfile::equal` meets its contract. The invariant: the two texts are the same exactly if what is left of them, from i on, is.
+use native.Mathlib.Omega.{arith}
+use borrow.Author.Rules.{rules}
+use mathlib.Core.Path.{◌≡◌, refl, sym, ◌∙◌}
+use Prim.Native.Nat.{◌≤◌, ◌-◌}
+use lib.ListN.{length, drop}
+use Rattle.dayfile.specs.Fields.{same}
+use Rattle.dayfile.proofs.Fields.{same_length, same_step, same-differ, same_end}
+use Rattle.dayfile.proofs.equal.Given as goal
+
+abbrev pub invariant-loop-i : goal.invariant-loop-i
+invariant-loop-i l = (l.i ≤ length l.a) × (length l.a ≡ length l.b) × (same l.a l.b ≡ same (drop l.i l.a) (drop l.i l.b))
+
+abbrev pub decreases-loop-i : goal.decreases-loop-i
+decreases-loop-i l = length l.a - l.i

@@ -1,0 +1,37 @@
+-- `dayfile::read_member` meets its contract. The fields follow each other from tab to tab.
+use native.Mathlib.Omega.{arith}
+use borrow.Author.Rules.{rules}
+use Rattle.dayfile.proofs.Entries.{no_field, one_field, two_fields, more-fields, three-fields}
+use Rattle.dayfile.proofs.read_member.Goals as goal
+
+pub returns-then-n-from : goal.returns-then-n-from
+returns-then-n-from c = let a = c.args in no_field a.line.now a.from (omega arith)
+
+pub returns-then-n-a : goal.returns-then-n-a
+returns-then-n-a c = let s = c.args in
+    let a = c.next_tab-a in
+    one_field s.line.now s.from a.result (omega arith) a.ensures.0 (omega arith) (omega arith)
+
+pub returns-then-n-b : goal.returns-then-n-b
+returns-then-n-b c = let s = c.args in
+    let a = c.next_tab-a in
+    let b = c.next_tab-b in
+    two_fields s.line.now s.from a.result (omega arith) a.ensures.0 (omega arith)
+    b.result (omega arith) b.ensures.0 (omega arith) (omega arith)
+
+pub returns-then-c-n : goal.returns-then-c-n
+returns-then-c-n c = let s = c.args in
+    let a = c.next_tab-a in
+    let b = c.next_tab-b in
+    let d = c.next_tab-c in
+    more-fields s.line.now s.from a.result (omega arith) a.ensures.0 (omega arith)
+    b.result (omega arith) b.ensures.0 (omega arith) d.result (omega arith) d.ensures.0 (omega arith) (omega arith)
+
+pub returns : goal.returns
+returns c = let s = c.args in
+    let a = c.next_tab-a in
+    let b = c.next_tab-b in
+    let d = c.next_tab-c in
+    three-fields s.line.now s.from a.result (omega arith) a.ensures.0 (omega arith)
+    b.result (omega arith) b.ensures.0 (omega arith) d.result (omega arith) d.ensures.0 (omega arith) (omega arith)
+    _ _ _ c.number_at.ensures c.signed_at.ensures c.number_at-2.ensures c.member.ensures
