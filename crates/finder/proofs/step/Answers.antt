@@ -16,7 +16,7 @@ use Rattle.finder.proofs.Steps.{Stepping, step_start, step-off, step-next, step_
 use Rattle.finder.proofs.Rounds.{ready_on}
 use borrow.Author.Rules.{rules}
 use Rattle.finder.proofs.step.Goals as goal
-use Rattle.finder.proofs.step.Goals.{then-m-count, else-m-count}
+use Rattle.finder.proofs.step.Goals.{then-m-count+else-is_short, else-m-count}
 
 pub loop-m-init : goal.loop-m-init
 loop-m-init c = (refl, refl, omega arith, step_start c.requires.ready)
@@ -55,7 +55,7 @@ loop-m-preserved-then-is_short c =
 pub returns-then-due-eq0 : goal.returns-then-due-eq0
 returns-then-due-eq0 c =
     let long : c.loop-m.m < c.args.count → Short c.loop-m.positions c.args.lines.now c.loop-m.m ≡ false = λ h.
-    elim c.if-m-count.branch [ then-m-count w ↦ ? | else-m-count w ↦ absurd (omega arith) ] in
+    elim c.if-m-count.branch [ then-m-count+else-is_short w ↦ let f = held (get_or c.loop-m.positions c.loop-m.m (pos 0)) w.position-1.given in let g = held (get_or c.args.lines.now c.loop-m.m (pos 0)) w.line-1.given in let told : Short c.loop-m.positions c.args.lines.now c.loop-m.m ≡ w.is_short.result = sym (simp (plain, f, g) at w.is_short.ensures) in told ∙ w.if-is_short.false | else-m-count w ↦ absurd (omega arith) ] in
     step_end c.loop-m.invariant.3 c.requires.member_lt_count long
 
 pub overflow_cast-m : goal.overflow_cast-m
