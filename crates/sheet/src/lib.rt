@@ -1,5 +1,6 @@
 // Lines of the sheet, written into the unused rest of the lent output.
 #![tactic(auto)]
+
 ghost use Rattle.std.specs.Prelude.{◌≡◌, true, false, cond, [], ◌+◌, ◌-◌, ◌^◌, ◌≤◌, ◌<◌, pos, length};
 ghost use Rattle.std.proofs.lemmas.List.Edits.{sets};
 ghost use Rattle.numbers.specs.Numbers.{most_digits};

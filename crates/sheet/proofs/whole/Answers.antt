@@ -4,14 +4,7 @@ use native.Mathlib.Omega.{arith}
 use mir.Syntax.{w64}
 use mir.Facts.{to_z_pos}
 use borrow.Author.Rules.{rules}
-use Rattle.sheet.proofs.whole.Statement.{statement}
-use Rattle.sheet.proofs.whole.Tie as tie
+use Rattle.sheet.proofs.whole.Goals as goal
 
-cast-result : tie.Need-overflow-cast-result
-cast-result c = search rules
-
-returns : tie.Need-returns
+pub returns : goal.returns
 returns c = let l : c.args.x < 2 ^ 63 = omega arith in to_z_pos w64 l
-
-pub whole-spec : {M : Type 1} → statement M
-whole-spec = tie.close (tie.spec cast-result returns)
