@@ -1,6 +1,7 @@
 // Booking a set of payments, given as counts from the heads: where it takes each balance, whether each member is covered then, and
 // the tables with it booked. One head alone is booked by itself.
 #![tactic(auto)]
+
 ghost use Rattle.std.specs.Prelude.{◌≡◌, ◌++◌, ℕ, ◌+◌, ◌-◌, ◌≤◌, ◌<◌, pos, length, get_or, take, drop, replicate};
 ghost use Rattle.rule.specs.Lists.{fill};
 ghost use Rattle.rule.specs.Kernel.{sum};

@@ -1,5 +1,6 @@
 // Opening a house: judging what it opens with, and filling the tables.
 #![tactic(auto)]
+
 ghost use Rattle.std.specs.Prelude.{◌≡◌, ◌≤◌, length};
 ghost use Rattle.rule.specs.Lists.{fill};
 ghost use Rattle.tables.specs.Sizes.{members, places, table};

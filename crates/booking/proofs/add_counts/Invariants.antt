@@ -1,0 +1,14 @@
+-- `booking::add_counts` meets its contract. The loop's invariant: the first i counters have their counts added.
+use Prim.Native.Nat.{◌+◌, ◌-◌}
+use native.Mathlib.Omega.{arith}
+use lib.ListN.{get_or}
+use borrow.Author.Rules.{rules}
+use Rattle.tables.specs.Sizes.{members}
+use Rattle.booking.proofs.Filling.{Filling, filling-start, filling-here, filling-turn, filling-end}
+use Rattle.booking.proofs.add_counts.Given as goal
+
+abbrev pub invariant-loop-i : goal.invariant-loop-i
+invariant-loop-i l = Filling members (λ k. get_or l.initial.block k 0 + get_or l.counts k 0) l.initial.block l.block l.i
+
+abbrev pub decreases-loop-i : goal.decreases-loop-i
+decreases-loop-i l = members - l.i

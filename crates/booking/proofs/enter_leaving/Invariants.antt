@@ -1,0 +1,19 @@
+-- `booking::enter_leaving` meets its contract. The loop's invariant: what is entered, with what is still to be entered, is all that leaves, and
+-- the pass ends early only if no more are to leave.
+use mathlib.Core.Path.{sym, ◌∙◌}
+use mathlib.Core.Logic.{⊎_elim}
+use Prim.Native.Nat.{◌<◌, ◌-◌}
+use native.Mathlib.Omega.{arith}
+use lib.ListN.{get_or}
+use borrow.Author.Rules.{rules}
+use Rattle.tables.specs.Sizes.{members}
+use Rattle.finder.proofs.Tops.{payer-under}
+use Rattle.booking.specs.Steps.{Ends}
+use Rattle.booking.proofs.Entering.{Underway, underway-start, underway-steady, underway-stay, underway-more, underway-leave, underway-end}
+use Rattle.booking.proofs.enter_leaving.Given as goal
+
+abbrev pub invariant-loop-i : goal.invariant-loop-i
+invariant-loop-i l = Underway l.used l.pays l.initial.positions l.initial.left l.positions l.left l.more l.i × Ends l.used l.more l.end
+
+abbrev pub decreases-loop-i : goal.decreases-loop-i
+decreases-loop-i l = l.used - l.i

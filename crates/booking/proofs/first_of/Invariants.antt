@@ -1,0 +1,14 @@
+-- `booking::first_of` meets its contract. The invariant: none of the payments before place i is paid by the member.
+use borrow.Author.Rules.{rules}
+use mathlib.Core.Path.{sym, ◌∙◌}
+use Prim.Native.Nat.{◌≤◌, ◌-◌}
+use native.Mathlib.Omega.{arith}
+use lib.ListN.{length}
+use Rattle.booking.proofs.Heads.{Passed, passed_none, passed-one}
+use Rattle.booking.proofs.first_of.Given as goal
+
+abbrev pub invariant-loop-i : goal.invariant-loop-i
+invariant-loop-i l = (l.i ≤ length l.pays) × Passed l.seat l.pays l.i
+
+abbrev pub decreases-loop-i : goal.decreases-loop-i
+decreases-loop-i l = length l.pays - l.i

@@ -1,0 +1,21 @@
+use Prim.Native.Nat.{◌-◌}
+use native.Mathlib.Omega.{arith}
+use lib.IntN.{pos}
+use lib.ListN.{get_or}
+use borrow.Author.Rules.{rules}
+use Rattle.rule.proofs.Ints.{plain}
+use Rattle.tables.specs.Sizes.{members}
+use Rattle.booking.proofs.Filling.{Filling, filling-start, filling-turn, filling-end}
+use Rattle.booking.proofs.store.Goals as goal
+
+pub loop-i-init : goal.loop-i-init
+loop-i-init c = filling-start members _ _ (omega arith)
+
+pub loop-i-preserved : goal.loop-i-preserved
+loop-i-preserved c = filling-turn c.loop-i.invariant (omega arith) _ (simp (plain, c.accounts-1.given))
+
+pub shape_of-accounts : goal.shape_of-accounts
+shape_of-accounts c = c.loop-i.invariant.long
+
+pub returns : goal.returns
+returns c = filling-end c.loop-i.invariant (omega arith)
