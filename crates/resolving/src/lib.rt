@@ -1,5 +1,6 @@
 // A resolution: the largest allowed set is found, booked and told.
 #![tactic(auto)]
+
 ghost use Rattle.std.specs.Prelude.{◌≡◌, ◌≤◌, length, take};
 ghost use Rattle.rule.specs.Verdict.{verdict_of};
 ghost use Rattle.sets.specs.Sets.{set_of};

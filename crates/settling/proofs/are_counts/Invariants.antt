@@ -1,0 +1,20 @@
+-- `settling::are_counts` meets its contract. The loop's invariant: no count before i is above what waits.
+use borrow.Author.Rules.{rules}
+use borrow.Author.Tests.{le-leb, lt-leb}
+use mathlib.Core.Path.{◌≡◌, sym, ◌∙◌}
+use Prim.Native.Nat.{◌-◌, ◌<◌}
+use native.Mathlib.Omega.{arith}
+use lib.Dec.{leb}
+use lib.ListN.{length}
+use Rattle.tables.specs.Sizes.{members}
+use Rattle.tables.specs.Layout.{count_of, waits_of}
+use Rattle.tables.proofs.Every.{Passed, every-start, every_more, every-fail, every-end}
+use Rattle.booking.specs.Booking.{listed}
+use Rattle.settling.proofs.Counts.{fit-not, fit_is}
+use Rattle.settling.proofs.are_counts.Given as goal
+
+abbrev pub invariant-loop-i : goal.invariant-loop-i
+invariant-loop-i l = (l.n ≡ count_of l.counters) × (length l.counts ≡ l.n) × Passed (λ k. leb (listed l.counts k) (waits_of l.counters k)) (count_of l.counters) l.i
+
+abbrev pub decreases-loop-i : goal.decreases-loop-i
+decreases-loop-i l = l.n - l.i
