@@ -1,5 +1,6 @@
 // The house: the six calls on any lent tables. Each looks whether the tables hold a state, and then acts.
 #![tactic(auto)]
+
 ghost use Rattle.std.specs.Prelude.{◌≡◌};
 ghost use Rattle.tables.specs.Layout.{tables};
 ghost use Rattle.answers.specs.Outcome.{outcome, held, called};
