@@ -31,7 +31,7 @@ carried-join {T} {U} {W} {cs} {ds} k m = record {
 -- requests from a state on, inside a day, are the rule's calls that they made
 pub chain-carries : {T : Tables} → Holds T → (qs : List Request) → Inside qs T → Carried T (made qs T) (after_all qs T)
 chain-carries h [] g = refused-carries h
-chain-carries h (q ∷ qs) g = let k = link-carries h q g.0 in carried-join k (chain-carries k.stands qs g.1)
+chain-carries {T = T} h (q ∷ qs) g = let k = link-carries h q g.0 in carried-join k (chain-carries {T = after q T} k.stands qs g.1)
 
 -- ---- two stretches
 

@@ -1,5 +1,6 @@
 // What stands at which lent byte: the three lists of a house, lists of counts, balances and lines, and answers.
 #![tactic(auto)]
+
 ghost use Rattle.std.specs.Prelude.{◌≡◌, ◌*◌, ◌≤◌, length, take};
 ghost use Rattle.std.specs.Int.{w64};
 ghost use Rattle.std.proofs.Common.{to_z};
