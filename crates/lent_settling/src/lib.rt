@@ -1,6 +1,7 @@
 // Release, group and resolve on lent bytes that are long enough: the lists are read out, the house answers, and only where it accepts is
 // anything written.
 #![tactic(auto)]
+
 ghost use Rattle.std.specs.Prelude.{◌≡◌, [], ◌*◌, ◌≤◌, length};
 ghost use Rattle.tables.specs.Sizes.{bytes};
 ghost use Rattle.answers.specs.Outcome.{called};
