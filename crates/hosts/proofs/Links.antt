@@ -96,7 +96,7 @@ taken {s} resolves c i =
 
 kept-all : {T : Tables} → Kept T → (qs : List Request) → Inside qs T → Kept (after_all qs T)
 kept-all k [] g = k
-kept-all k (q ∷ qs) g = kept-all (kept-after k q g.0) qs g.1
+kept-all {T = T} k (q ∷ qs) g = kept-all {T = after q T} (kept-after k q g.0) qs g.1
 
 -- what it stored is read back
 pub took-link : {s t : List ℕ} {cs : List Noted} {qs : List Request} → Kept (tables_in s) → Took s t cs qs → Link s t cs qs

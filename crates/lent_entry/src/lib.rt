@@ -1,6 +1,7 @@
 // Open, deposit and submit on lent bytes that are long enough: the lists are read out, the house answers, and only where it accepts is
 // anything written.
 #![tactic(auto)]
+
 ghost use Rattle.std.specs.Prelude.{◌≡◌, [], ◌≤◌, length};
 ghost use Rattle.tables.specs.Sizes.{bytes};
 ghost use Rattle.answers.specs.Outcome.{held, called};
