@@ -1,5 +1,6 @@
 // The lines of the day: each is one call on the tables, and what is said of it on the sheet.
 #![tactic(auto)]
+
 ghost use Rattle.std.specs.Prelude.{◌≡◌, ℕ, ◌≤◌, ◌<◌, length, get_or, take};
 ghost use Rattle.tables.specs.Sizes.{members};
 ghost use Rattle.tables.specs.Layout.{tables};

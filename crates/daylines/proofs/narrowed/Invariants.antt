@@ -1,0 +1,15 @@
+-- `daylines::narrowed` meets its contract. The invariant: the first i counts stand in the array, in 16 bits.
+use Rattle.daylines.proofs.Settling.{least-turn}
+use Rattle.daylines.specs.Calls.{capped}
+use lib.ListN.{length, get_or, length-set}
+use native.Mathlib.Omega.{arith}
+use Rattle.tables.specs.Sizes.{members}
+use Prim.Native.Nat.{ℕ, ◌-◌, ◌≤◌, ◌<◌}
+use mathlib.Core.Path.{◌≡◌, refl}
+use Rattle.daylines.proofs.narrowed.Given as goal
+
+abbrev pub invariant-loop-i : goal.invariant-loop-i
+invariant-loop-i l = (length l.k ≡ members) × (l.i ≤ l.m) × ((j : ℕ) → j < l.i → get_or l.k j 0 ≡ capped (get_or l.counts j 0))
+
+abbrev pub decreases-loop-i : goal.decreases-loop-i
+decreases-loop-i l = l.m - l.i
