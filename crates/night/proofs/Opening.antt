@@ -12,9 +12,6 @@ use mir.Syntax.{w64}
 use mir.Val.{to_z, of_z}
 use mir.Facts.{to_z-of_z}
 use lib.Signed.{mag}
-use types.Run.{OneOf, miss}
-use denote.Enum.Declared.{tag_of}
-use Rattle.dayfile.specs.contracts.Entry.{the_type}
 use Rattle.rule.proofs.Ints.{held}
 use Rattle.numbers.specs.Numbers.{most_digits}
 use Rattle.numbers.proofs.Signs.{held_small}
@@ -39,8 +36,8 @@ use Rattle.daylines.specs.Calls.{refusal}
 use Rattle.night.specs.Lines.{done_by, quiet, stops, house_does, given, member_does, open_says, open_stage, balances_given, lines_given, opens_to, open_does}
 
 -- any line but one of the opening stops the night,
-pub house-other : (n : ℕ) (t : Tables) (e : Entry) → OneOf (1 ∷ 2 ∷ 3 ∷ []) (tag_of the_type e) → house_does n t (meant e []) ≡ stops n Line t
-house-other n t (E.Opening o) k = absurd (miss (1 ∷ 2 ∷ 3 ∷ []) 0 tt k)
+pub house-other : (n : ℕ) (t : Tables) (e : Entry) → ((o : OpeningLine) → e ≡ E.Opening o → ⊥) → house_does n t (meant e []) ≡ stops n Line t
+house-other n t (E.Opening o) k = absurd (k o refl)
 house-other n t (E.Day d) k = refl
 house-other n t E.End k = refl
 house-other n t E.Bad k = refl
@@ -69,8 +66,8 @@ pub give-did : (a a₁ : List ℤ) (k : ℕ) (b : ℤ) (l : ℕ) → nat_abs b <
 give-did a a₁ k b l h q = q ∙ rw (to_z-of_z {w = w64} (held_small b h))
 
 -- any line but one of the opening stops the night,
-pub member-none : (n count k : ℕ) (t : Tables) (e : Entry) → OneOf (1 ∷ 2 ∷ 3 ∷ []) (tag_of the_type e) → member_does n count k t (meant e []) ≡ stops n Line t
-member-none n count k t (E.Opening o) w = absurd (miss (1 ∷ 2 ∷ 3 ∷ []) 0 tt w)
+pub member-none : (n count k : ℕ) (t : Tables) (e : Entry) → ((o : OpeningLine) → e ≡ E.Opening o → ⊥) → member_does n count k t (meant e []) ≡ stops n Line t
+member-none n count k t (E.Opening o) w = absurd (w o refl)
 member-none n count k t (E.Day d) w = refl
 member-none n count k t E.End w = refl
 member-none n count k t E.Bad w = refl

@@ -1,5 +1,6 @@
 // The night, line by line: what each line of the day file does to the stage and the tables, and what it says on the sheet.
 #![tactic(auto)]
+
 mod day;
 mod ending;
 mod openings;

@@ -1,5 +1,6 @@
 // Snarevapor for a host: each call on lent bytes, by a function for C. `include/snarevapor.h` is its manual.
 #![tactic(auto)]
+
 ghost use Rattle.std.specs.Prelude.{◌≡◌, []};
 ghost use Rattle.lent.specs.Reply.{lends};
 ghost use Rattle.lent.specs.Asks.{opens, deposits, submits, releases, groups, resolves, replied};

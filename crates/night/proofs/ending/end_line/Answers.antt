@@ -1,0 +1,26 @@
+-- `night::ending::end_line` meets its contract: no loop.
+use Rattle.night.proofs.EndLines.{left-waits, end-balance, end-money}
+use Rattle.tables.specs.Layout.{Tables, tables}
+use Rattle.tables.proofs.Balances.{accounts-bounded}
+use Rattle.rule.proofs.Ints.{plain}
+use native.Mathlib.Omega.{arith}
+use borrow.Author.Rules.{rules}
+use Rattle.night.proofs.ending.end_line.Goals as goal
+
+pub overflow_sub-left : goal.overflow_sub-left
+overflow_sub-left c = (left-waits c.requires.holds c.args.k (omega arith)).some
+
+pub overflow_cast-result : goal.overflow_cast-result
+overflow_cast-result c = omega (arith, (left-waits c.requires.holds c.args.k (omega arith)).few)
+
+pub returns-then-i-count : goal.returns-then-i-count
+returns-then-i-count c = let t : Tables = tables c.args.accounts.now c.args.counters.now c.args.pays.now in
+    simp (plain, c.result-1.given) (end-balance t c.requires.holds c.args.k (omega arith))
+
+pub total-requires : goal.total-requires
+total-requires c = accounts-bounded c.requires.holds.accounts
+
+pub returns : goal.returns
+returns c = let t : Tables = tables c.args.accounts.now c.args.counters.now c.args.pays.now in
+    let g = c.total.type_inv in
+    simp plain (end-money t c.requires.holds c.args.k c.total.result c.total.ensures (omega arith))
