@@ -10,7 +10,7 @@ pub const MOST_BYTES: usize = 400;
 const BLOCK: usize = 16;
 
 // What is held of the line that is not ended: how many bytes stand in the lent buffer, and whether there were more than 400.
-#[derive(Drop)]
+#[derive(Clone, Copy)]
 pub struct Cut {
     pub held: usize,
     pub is_long: bool,

@@ -1,5 +1,6 @@
 // A line of the night, with lent lists: the next line of a chunk is read and answered, or the next line of the end is said, into a lent output.
 #![tactic(auto)]
+
 pub mod chunks;
 pub mod ends;
 pub mod lines;
@@ -12,7 +13,7 @@ use dayfile::lines::Cut;
 use night::Stage;
 
 // The night between lines: lines read, where it stands, bytes of the output used, and what is held of the next line.
-#[derive(Drop)]
+#[derive(Clone, Copy)]
 pub struct State {
     pub lines: u64,
     pub stage: Stage,

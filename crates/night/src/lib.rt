@@ -20,7 +20,7 @@ pub use stages::{ending_at, is_ending, is_over};
 
 // Where the night stands: before the house line; in the opening of a house of some members, of whom some were given; in the day; at the
 // end, with some of its lines said; over.
-#[derive(Drop)]
+#[derive(Clone, Copy)]
 pub enum Stage {
     House,
     Members(u64, u64),
