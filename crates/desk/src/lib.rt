@@ -22,7 +22,7 @@ pub struct State {
 }
 
 // The next place of a chunk, and the night there.
-#[derive(Drop)]
+#[derive(Clone, Copy)]
 pub struct Turn {
     pub at: usize,
     pub state: State,

@@ -1,5 +1,6 @@
 // The night as a library: fed the bytes of a day file in chunks of any size, it writes the sheet into a lent output.
 #![tactic(auto)]
+
 mod turns;
 
 ghost use Rattle.std.specs.Prelude.{◌≡◌, [], ◌≤◌, length, drop};
