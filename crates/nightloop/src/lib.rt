@@ -1,6 +1,7 @@
 // The loop of a program that reads a day file on standard input and writes its sheet on standard output, step by step. What is said stands
 // there before more input is awaited.
 #![tactic(auto)]
+
 ghost use Rattle.std.specs.Prelude.{◌≡◌, cond, ◌&&◌, ◌≤◌, ltb, pos, length, take};
 ghost use Rattle.std.specs.Int.Signed.{lt_z};
 ghost use Rattle.tables.specs.Layout.{tables};
@@ -9,13 +10,22 @@ ghost use Rattle.nightloop.specs.declared.Next.TheVariants.{Close, Failed};
 ghost use Rattle.nightloop.specs.Steps.{out_bytes, Memory, CanGo, goes_on_from, taken_as, Took, fed_next, closed_next, Wrote, desk_in, Ate, Closed, SoFar};
 
 use desk::State;
+use std::io::{Read, Stderr, Stdin, Stdout, Write};
 
 // The bytes that are read at once, and those of the output that is written at once.
 pub const OUT: usize = 4096;
 
+// Standard input, output and error: where the day file comes from, where its sheet goes, and where it is said that reading or writing failed.
+#[derive(Clone, Copy)]
+pub struct Streams {
+    pub input: Stdin,
+    pub output: Stdout,
+    pub errors: Stderr,
+}
+
 // What comes next: a chunk is read, what is left of it is eaten, or the night is closed; or nothing, since the night is over, or reading or
 // writing failed.
-#[derive(Drop)]
+#[derive(Clone, Copy)]
 pub enum Next {
     Read,
     Eat,
@@ -25,7 +35,7 @@ pub enum Next {
 }
 
 // Between two steps: got bytes of the chunk were read, and those before at are eaten; and the night there.
-#[derive(Drop)]
+#[derive(Clone, Copy)]
 pub struct Run {
     pub next: Next,
     pub at: usize,
@@ -33,8 +43,9 @@ pub struct Run {
     pub state: State,
 }
 
-// The whole night, step by step.
+// The whole night, step by step, from the input to the output.
 pub fn whole(
+    streams: Streams,
     chunk: &mut [u8],
     buf: &mut [u8],
     counts: &mut [u64],
@@ -55,7 +66,9 @@ pub fn whole(
     };
     let mut turns = u64::MAX;
     while goes_on(r, turns) {
-        r = step(chunk, buf, counts, accounts, counters, pays, out, r);
+        r = step(
+            streams, chunk, buf, counts, accounts, counters, pays, out, r,
+        );
         turns -= 1;
     }
     r
@@ -77,6 +90,7 @@ fn goes_on(r: Run, turns: u64) -> bool
 
 // One step. Of what a session of the night was before it is one after it.
 fn step(
+    streams: Streams,
     chunk: &mut [u8],
     buf: &mut [u8],
     counts: &mut [u64],
@@ -92,13 +106,17 @@ fn step(
     let next = r.next;
     match next {
         Next::Read => {
-            return read_on(chunk, r);
+            return read_on(streams, chunk, r);
         }
         Next::Eat => {
-            return eat_on(chunk, buf, counts, accounts, counters, pays, out, r);
+            return eat_on(
+                streams, chunk, buf, counts, accounts, counters, pays, out, r,
+            );
         }
         Next::Close => {
-            return close_on(chunk, buf, counts, accounts, counters, pays, out, r);
+            return close_on(
+                streams, chunk, buf, counts, accounts, counters, pays, out, r,
+            );
         }
         Next::Done => {
             return r;
@@ -110,15 +128,24 @@ fn step(
 }
 
 // Reads a chunk: what the read answered and put there comes next.
-fn read_on(chunk: &mut [u8], r: Run) -> Run
+fn read_on(streams: Streams, chunk: &mut [u8], r: Run) -> Run
     ensures { Took result r.state (length chunk.new) }
 {
-    let got = libc::read(0, chunk);
-    taken(got, chunk, r)
+    let got = read(streams, chunk);
+    taken(streams, got, chunk, r)
+}
+
+// How many bytes a read put at the start of the chunk, or -1 where it failed.
+fn read(streams: Streams, chunk: &mut [u8]) -> isize {
+    let mut input = streams.input;
+    match input.read(chunk) {
+        Ok(n) => n as isize,
+        Err(_) => -1,
+    }
 }
 
 // A read was answered with got, and its bytes are at the start of the chunk: they are eaten next, or the input is at its end, or reading failed.
-fn taken(got: isize, chunk: &[u8], r: Run) -> Run
+fn taken(streams: Streams, got: isize, chunk: &[u8], r: Run) -> Run
     ensures { result ≡ taken_as got (length chunk.now) r.state }
 {
     let s = r.state;
@@ -131,7 +158,7 @@ fn taken(got: isize, chunk: &[u8], r: Run) -> Run
             state: s,
         };
     }
-    let next = ended(got);
+    let next = ended(streams, got);
     Run {
         next,
         at: 0,
@@ -141,11 +168,11 @@ fn taken(got: isize, chunk: &[u8], r: Run) -> Run
 }
 
 // A read that put nothing into the chunk failed, or the input is at its end.
-fn ended(got: isize) -> Next
+fn ended(streams: Streams, got: isize) -> Next
     ensures { result ≡ cond (lt_z got (pos 0)) Failed Close }
 {
     if got < 0 {
-        io::write_all(2, b"nightsheet: cannot read\n");
+        complain(streams, b"nightsheet: cannot read\n");
         return Next::Failed;
     }
     Next::Close
@@ -153,6 +180,7 @@ fn ended(got: isize) -> Next
 
 // What is left of the chunk is eaten, as far as the output has room, and what it says is written out.
 fn eat_on(
+    streams: Streams,
     chunk: &[u8],
     buf: &mut [u8],
     counts: &mut [u64],
@@ -186,7 +214,7 @@ fn eat_on(
         got,
         state: v,
     };
-    write_out(out, e)
+    write_out(streams, out, e)
 }
 
 // After a chunk was fed: the night is over, the output was full, or all is eaten.
@@ -206,6 +234,7 @@ fn fed_next(s: State) -> Next
 
 // The input is at its end: the night is closed, as far as the output has room, and what it says is written out.
 fn close_on(
+    streams: Streams,
     chunk: &[u8],
     buf: &[u8],
     counts: &mut [u64],
@@ -227,7 +256,7 @@ fn close_on(
         got: r.got,
         state: v,
     };
-    write_out(out, e)
+    write_out(streams, out, e)
 }
 
 // After a turn at the end of the input: the night is over, or the output was full.
@@ -242,14 +271,14 @@ fn closed_next(s: State) -> Next
 }
 
 // Writes out what is used of the output: its bytes are free again, and what comes next stays, unless writing fails.
-fn write_out(out: &[u8], r: Run) -> Run
+fn write_out(streams: Streams, out: &[u8], r: Run) -> Run
     requires { r.state.used ≤ length out.now }
     ensures { Wrote r result }
 {
     let s = r.state;
     let used = s.used;
     let w = session::flushed(s);
-    if hand_out(&out[..used], out, s) {
+    if hand_out(streams, &out[..used], out, s) {
         let next = r.next;
         return Run {
             next,
@@ -258,7 +287,7 @@ fn write_out(out: &[u8], r: Run) -> Run
             state: w,
         };
     }
-    io::write_all(2, b"nightsheet: cannot write\n");
+    complain(streams, b"nightsheet: cannot write\n");
     Run {
         next: Next::Failed,
         at: r.at,
@@ -268,8 +297,15 @@ fn write_out(out: &[u8], r: Run) -> Run
 }
 
 // Hands bytes to standard output: the night's, as they stand in the output, which is lent for this promise alone.
-fn hand_out(bytes: &[u8], out: &[u8], s: State) -> bool
+fn hand_out(streams: Streams, bytes: &[u8], out: &[u8], s: State) -> bool
     requires { bytes.now ≡ take s.used out.now }
 {
-    io::write_all(1, bytes)
+    let mut output = streams.output;
+    output.write_all(bytes).is_ok()
+}
+
+// Says on standard error why the night stops. Where not even that can be written, nothing is left to do.
+fn complain(streams: Streams, words: &[u8]) {
+    let mut errors = streams.errors;
+    let _said = errors.write_all(words).is_ok();
 }

@@ -1,15 +1,41 @@
 // Reads a day file on standard input and writes its sheet on standard output.
 #![tactic(auto)]
+use nightloop::Streams;
+use std::env::{Env, FillError};
+use std::io::{Stderr, Write};
 use tables::House;
 
-fn main() {
-    if os::arg_count() > 1 {
-        io::write_all(
-            2,
-            b"usage: nightsheet < DAYFILE\nReads a day file on standard input and writes its sheet on standard output.\n",
-        );
+fn main(rt: HostRuntime) {
+    if has_arguments(&rt) {
+        tell_usage(rt.stderr());
         return;
     }
+    let streams = Streams {
+        input: rt.stdin(),
+        output: rt.stdout(),
+        errors: rt.stderr(),
+    };
+    night(streams);
+}
+
+// Whether a word stands behind the program's name.
+fn has_arguments(rt: &impl Env) -> bool {
+    let mut word = [0u8; 1];
+    !matches!(rt.arg(1, &mut word), Err(FillError::NotPresent))
+}
+
+// Says how the program is called.
+fn tell_usage(errors: Stderr) {
+    let mut errors = errors;
+    let _said = errors
+        .write_all(
+            b"usage: nightsheet < DAYFILE\nReads a day file on standard input and writes its sheet on standard output.\n",
+        )
+        .is_ok();
+}
+
+// One night, from the first line to the last.
+fn night(streams: Streams) {
     let mut chunk = [0u8; nightloop::OUT];
     let mut buf = [0u8; dayfile::lines::MOST_BYTES];
     let mut counts = [0u64; dayfile::MOST_COUNTS];
@@ -18,6 +44,7 @@ fn main() {
     let mut pays = [0u64; House::PLACES];
     let mut out = [0u8; nightloop::OUT];
     nightloop::whole(
+        streams,
         &mut chunk,
         &mut buf,
         &mut counts,
