@@ -4,6 +4,6 @@
 set -u
 cd "$(dirname "$0")/.." || exit 2
 . tests/ask
-ask staticlib snarevapor
+ask lib snarevapor
 build archive release
 exec target/archive/release/archive "${1:-20000}" "${2:-20261115}"

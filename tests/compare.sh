@@ -10,7 +10,7 @@ nights=${1:-500} seed=${2:-1}
 [ $# -lt 2 ] || shift
 [ $# -lt 1 ] || shift
 . tests/ask
-ask check nightsheet
+ask run nightsheet
 build second release
 sheet=${NIGHTSHEET:-$PWD/target/bin/nightsheet}
 second=${SECOND:-$PWD/target/second/release/second}

@@ -4,7 +4,7 @@
 set -u
 cd "$(dirname "$0")/.." || exit 2
 . tests/ask
-ask check nightsheet
+ask run nightsheet
 sheet=target/bin/nightsheet
 got=$(mktemp) || exit 2
 trap 'rm -f "$got"' EXIT

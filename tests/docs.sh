@@ -26,11 +26,10 @@ done
 
 # ---- edits
 
-# Each edit says in one form of words what is so, and what refuses the program in which it is not; the gate's list names edits that are there.
-for edit in tests/edits/*/*.edit; do
+# Each edit says in one form of words what is so, and what refuses the program in which it is not.
+for edit in crates/*/must-fail/*.edit; do
     check "$edit: its first line is not '# .. : refused by \`NAME\`.'" sh -c "head -n 1 '$edit' | grep -qE '^# .+: refused by \`[^\`]+\`\.\$'"
 done
-for edit in $(grep -v '^#' tests/edits/gate); do check "tests/edits/gate names $edit, which is not there" test -f "tests/edits/$edit.edit"; done
 
 # ---- the crates' numbers
 
@@ -83,7 +82,7 @@ PAYMENTS_AT $places
 END
 
 # The codes: the header's names and the rows of DAYFILE.md's table are those of the crates.
-codes=$(sed -n 's/^codeOf \([A-Za-z]*\) = \([0-9]*\)$/\1 \2/p' crates/answers/specs/Codes.antt)
+codes=$(sed -n 's/^code_of \([A-Za-z]*\) = \([0-9]*\)$/\1 \2/p' crates/answers/specs/Codes.antt)
 code_of() { echo "$codes" | awk -v n="$1" '$1 == n { print $2 }'; }
 rows=$(sed -n '/^## Codes/,/^## /s/^| \([0-9][0-9]*\) |.*/\1/p' docs/DAYFILE.md)
 check "DAYFILE.md has other codes than the crates" test "$rows" = "$(echo "$codes" | cut -d ' ' -f 2)"
@@ -98,7 +97,7 @@ done
 for call in opening/Open entry/Deposit entry/Submit settling/Release settling/Group resolving/Resolve; do
     file=crates/${call%/*}/specs/${call#*/}.antt
     told=$(sed -n '1s/.*codes \([0-9, ]*\)).*/\1/p' "$file")
-    judged=$(sed -n 's/^use .*Refusal\.the-variants\.{\(.*\)}/\1/p' "$file" | sed 's/ as [A-Za-z]*//g' | tr -d ' ' | tr , '\n' |
+    judged=$(sed -n 's/^use .*Refusal\.TheVariants\.{\(.*\)}/\1/p' "$file" | sed 's/ as [A-Za-z]*//g' | tr -d ' ' | tr , '\n' |
         while read -r name; do code_of "$name"; done)
     check "$file: it says codes $told, and judges others" test "$(echo "$told" | tr -d ' ' | tr , '\n' | sort -n)" = "$(printf '1\n%s\n' "$judged" | sort -nu)"
     name=$(echo "${call#*/}" | tr '[:upper:]' '[:lower:]')

@@ -5,7 +5,7 @@
 set -u
 cd "$(dirname "$0")/.." || exit 2
 . tests/ask
-ask check nightsheet
+ask run nightsheet
 sheet=target/bin/nightsheet
 work=$(mktemp -d) || exit 2
 trap 'rm -rf "$work"' EXIT

@@ -5,11 +5,11 @@ use mathlib.Core.List.{List, [], ◌∷◌}
 use Prim.Native.Nat.{ℕ, ◌+◌, ◌-◌, ◌≤◌, ◌<◌}
 use native.Mathlib.Decide.{ℕ_discrete, dec_lt}
 use native.Mathlib.Omega.{arith}
-use lib.IntN.{ℤ, pos, ◌+ℤ◌, ◌-ℤ◌}
+use lib.IntN.{pos, ◌+ℤ◌, ◌-ℤ◌}
 use lib.ListN.{length, get_or, replicate, length-replicate, get_or-eq_default}
 use lib.Seq.{ext_get_or, get_or-take, length-take-le}
 use borrow.Author.Tests.{eq-eqb, le-leb}
-use Rattle.rule.specs.Kernel.{Counts, none, sum, Under}
+use Rattle.rule.specs.Kernel.{Counts, none, Under}
 use Rattle.rule.specs.Queue.{worth}
 use Rattle.rule.specs.House.{waits, sent, received, position}
 use Rattle.rule.specs.Table.{staying}

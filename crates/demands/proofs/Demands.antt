@@ -45,7 +45,7 @@ use Rattle.days.specs.Days.{Request, after_all, made, Inside, opening_of, Begun,
 use Rattle.days.proofs.Sums.{day-money, chain-covered, chain-lines}
 use Rattle.days.proofs.Openings.{begun-day, day-ends-as-at-once, days-end-equal, days-end-queues}
 use Rattle.hosts.specs.Hosts.{HostCall, Chain, notes, HostDay, opening_in}
-use Rattle.hosts.proofs.Demands.{refused-changes-nothing, accepted-stands, day-sum, day-covered, ends-as-at-once, days-end, days-queues}
+use Rattle.hosts.proofs.Demands.{refused-changes-nothing, day-sum, day-covered, ends-as-at-once, days-end, days-queues}
 use Rattle.dayfile.specs.Lines.{Line}
 use Rattle.dayfile.specs.Chunks.{run_of}
 use Rattle.dayfile.specs.Entries as E

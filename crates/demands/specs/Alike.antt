@@ -1,6 +1,5 @@
 -- What two days have in common (demand 3). cs and ds are what they did, in the rule's words.
-use Rattle.std.specs.Prelude.{◌≡◌, List, ℕ, ◌<◌, length}
-use Rattle.rule.specs.Kernel.{sum}
+use Rattle.std.specs.Prelude.{◌≡◌, List, ℕ, ◌<◌}
 use Rattle.rule.specs.Day.{Call, deposits, payments}
 
 -- equal totals of accepted deposits for each of n members, and the same accepted payments in the same order for each payer

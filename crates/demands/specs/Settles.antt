@@ -1,5 +1,5 @@
 -- What a resolution does to tables, and what its verdict says (demand 2).
-use Rattle.std.specs.Prelude.{◌≡◌, ℕ}
+use Rattle.std.specs.Prelude.{ℕ}
 use Rattle.rule.specs.Kernel.{Counts}
 use Rattle.rule.specs.House.{LargestSet, Same, booked}
 use Rattle.rule.specs.Verdict.{Says}

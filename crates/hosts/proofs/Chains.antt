@@ -2,7 +2,7 @@
 use mathlib.Core.Path.{◌≡◌, refl, sym, ap, ap₂, ◌∙◌, subst}
 use mathlib.Core.List.{List, [], ◌++◌}
 use Prim.Native.Nat.{ℕ, ◌+◌}
-use Rattle.rule.specs.Day.{Call as Noted, payments}
+use Rattle.rule.specs.Day.{Call as Noted}
 use Rattle.lent.specs.Bytes.{tables_in}
 use Rattle.lent.specs.Stands.{Stands}
 use Rattle.days.specs.Days.{Request, after_all, made, Inside}

@@ -29,7 +29,7 @@ use Rattle.dayfile.specs.Lines.{Line, lines_of}
 use Rattle.dayfile.specs.Chunks.{run_of}
 use Rattle.dayfile.specs.Entries.{most_lines}
 use Rattle.desk.specs.Sheet.{Night, texts_of, entry_in, step_of, morning, closed, sheet_of}
-use Rattle.days.specs.Days.{Request, after, accepted, after_all, made, Inside, Ended, opening_of, Begun, Equal}
+use Rattle.days.specs.Days.{Request, accepted, after_all, made, Inside, Ended, opening_of, Begun, Equal}
 use Rattle.days.proofs.Joins.{deposits-join, payments-join}
 use Rattle.days.proofs.Chains.{chain-carries, after-join, made-join, inside-first}
 use Rattle.days.proofs.Demand3.{ended-stands}

@@ -26,7 +26,6 @@ use Rattle.resolving.specs.Resolve.{resolve_act, largest_in}
 use Rattle.dayfile.specs.Entries as E
 use Rattle.dayfile.specs.Entries.{most_lines, DayLine, Entry}
 use Rattle.sheet.specs.declared.Says.{Says}
-use Rattle.sheet.specs.declared.Says.TheVariants as S
 use Rattle.sheet.specs.Lines.{text_of}
 use Rattle.dayfile.specs.Lines.{Line, lines_of}
 use Rattle.dayfile.specs.Chunks.{run_of}

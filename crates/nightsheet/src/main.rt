@@ -1,5 +1,6 @@
 // Reads a day file on standard input and writes its sheet on standard output.
 #![tactic(auto)]
+
 use nightloop::Streams;
 use std::env::{Env, FillError};
 use std::io::{Stderr, Write};

@@ -8,7 +8,7 @@ use native.Mathlib.Decide.{dec_lt}
 use native.Mathlib.Omega.{arith}
 use borrow.Author.Tests.{leb-true, le-leb, eqb-true, eqb-false, eq-eqb, ne_eqb, not-false}
 use lib.Dec.{eqb, leb}
-use lib.IntN.{ℤ, pos, ◌+ℤ◌}
+use lib.IntN.{pos, ◌+ℤ◌}
 use lib.Signed.{le_z}
 use lib.ListN.{length, get_or, get_or-eq_default}
 use mir.Syntax.{w64}

@@ -1,9 +1,6 @@
-use Prim.Native.Nat.{◌+◌, ◌-◌}
 use native.Mathlib.Omega.{arith}
-use lib.ListN.{get_or}
-use borrow.Author.Rules.{rules}
 use Rattle.tables.specs.Sizes.{members}
-use Rattle.booking.proofs.Filling.{Filling, filling-start, filling-here, filling-turn, filling-end}
+use Rattle.booking.proofs.Filling.{filling-start, filling-here, filling-turn, filling-end}
 use Rattle.booking.proofs.add_counts.Goals as goal
 
 pub loop-i-init : goal.loop-i-init

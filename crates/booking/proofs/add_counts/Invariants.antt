@@ -1,10 +1,8 @@
 -- `booking::add_counts` meets its contract. The loop's invariant: the first i counters have their counts added.
 use Prim.Native.Nat.{◌+◌, ◌-◌}
-use native.Mathlib.Omega.{arith}
 use lib.ListN.{get_or}
-use borrow.Author.Rules.{rules}
 use Rattle.tables.specs.Sizes.{members}
-use Rattle.booking.proofs.Filling.{Filling, filling-start, filling-here, filling-turn, filling-end}
+use Rattle.booking.proofs.Filling.{Filling}
 use Rattle.booking.proofs.add_counts.Given as goal
 
 abbrev pub invariant-loop-i : goal.invariant-loop-i

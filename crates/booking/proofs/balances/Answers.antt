@@ -1,12 +1,10 @@
-use Prim.Native.Nat.{◌-◌}
 use native.Mathlib.Omega.{arith}
 use lib.IntN.{pos}
-use borrow.Author.Rules.{rules}
 use Rattle.rule.proofs.Ints.{plain}
 use Rattle.rule.proofs.Lists.{fill-at}
 use Rattle.tables.specs.Sizes.{members}
 use Rattle.tables.specs.Layout.{balance_of}
-use Rattle.booking.proofs.Filling.{Filling, filling-start, filling-turn, filling-end}
+use Rattle.booking.proofs.Filling.{filling-start, filling-turn, filling-end}
 use Rattle.booking.proofs.balances.Goals as goal
 
 pub loop-i-init : goal.loop-i-init

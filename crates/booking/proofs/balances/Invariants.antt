@@ -1,13 +1,8 @@
 -- `booking::balances` meets its contract. The loop's invariant: the first i places hold the first i balances.
 use Prim.Native.Nat.{◌-◌}
-use native.Mathlib.Omega.{arith}
-use lib.IntN.{pos}
-use borrow.Author.Rules.{rules}
-use Rattle.rule.proofs.Ints.{plain}
-use Rattle.rule.proofs.Lists.{fill-at}
 use Rattle.tables.specs.Sizes.{members}
 use Rattle.tables.specs.Layout.{balance_of}
-use Rattle.booking.proofs.Filling.{Filling, filling-start, filling-turn, filling-end}
+use Rattle.booking.proofs.Filling.{Filling}
 use Rattle.booking.proofs.balances.Given as goal
 
 abbrev pub invariant-loop-i : goal.invariant-loop-i

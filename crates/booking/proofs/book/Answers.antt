@@ -1,5 +1,4 @@
 -- `booking::book` meets its contract: each list is that of its step, on what the tables held before.
-use borrow.Author.Rules.{rules}
 use mathlib.Core.Path.{ap, ◌∙◌}
 use native.Mathlib.Omega.{arith}
 use lib.ListN.{length}

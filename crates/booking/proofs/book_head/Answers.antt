@@ -1,5 +1,4 @@
 -- `booking::book_head` meets its contract: the amount moves, the gap of one is closed, and the counters follow.
-use borrow.Author.Rules.{rules}
 use mathlib.Core.Path.{sym, ap, ◌∙◌}
 use mathlib.Core.List.{◌++◌}
 use native.Mathlib.Omega.{arith}

@@ -1,9 +1,7 @@
 use mathlib.Core.Path.{refl, ◌∙◌}
-use Prim.Native.Nat.{◌-◌}
 use native.Mathlib.Omega.{arith}
 use lib.ListN.{length}
-use borrow.Author.Rules.{rules}
-use Rattle.booking.proofs.Filling.{Filling, filling-start, filling-turn, filling-end, fill-same}
+use Rattle.booking.proofs.Filling.{filling-start, filling-turn, filling-end, fill-same}
 use Rattle.booking.proofs.clear.Goals as goal
 
 pub loop-i-init : goal.loop-i-init

@@ -1,10 +1,9 @@
 use mathlib.Core.Path.{◌≡◌, sym}
 use mathlib.Core.List.{append-nil}
-use Prim.Native.Nat.{◌+◌, ◌-◌}
+use Prim.Native.Nat.{◌-◌}
 use native.Mathlib.Omega.{arith}
-use lib.ListN.{length, get_or}
-use borrow.Author.Rules.{rules}
-use Rattle.booking.proofs.Filling.{Filling, filling-start, filling-ahead, filling-turn, filling-end, gap-closed}
+use lib.ListN.{length}
+use Rattle.booking.proofs.Filling.{filling-start, filling-ahead, filling-turn, filling-end, gap-closed}
 use Rattle.booking.proofs.close_gap.Goals as goal
 
 pub returns-then-gap-eq0 : goal.returns-then-gap-eq0

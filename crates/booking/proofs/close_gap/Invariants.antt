@@ -1,12 +1,8 @@
 -- `booking::close_gap` meets its contract. The loop's invariant: the first i places hold what stood `gap` places further up, and the rest is as
 -- it was.
-use mathlib.Core.Path.{◌≡◌, sym}
-use mathlib.Core.List.{append-nil}
 use Prim.Native.Nat.{◌+◌, ◌-◌}
-use native.Mathlib.Omega.{arith}
-use lib.ListN.{length, get_or}
-use borrow.Author.Rules.{rules}
-use Rattle.booking.proofs.Filling.{Filling, filling-start, filling-ahead, filling-turn, filling-end, gap-closed}
+use lib.ListN.{get_or}
+use Rattle.booking.proofs.Filling.{Filling}
 use Rattle.booking.proofs.close_gap.Given as goal
 
 abbrev pub invariant-loop-i : goal.invariant-loop-i

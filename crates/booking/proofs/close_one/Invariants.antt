@@ -1,11 +1,6 @@
 -- `booking::close_one` meets its contract. The invariant: the places before i have moved down.
-use borrow.Author.Rules.{rules}
-use mathlib.Core.Path.{◌≡◌}
-use Prim.Native.Nat.{◌+◌, ◌<◌, ◌-◌}
-use native.Mathlib.Omega.{arith}
-use lib.ListN.{length, length-set}
-use Rattle.booking.specs.Steps.{block, Lowered}
-use Rattle.booking.proofs.Lowering.{spliced, lowered_none, part-some, lowered-part, lowered-all}
+use Prim.Native.Nat.{◌<◌, ◌-◌}
+use Rattle.booking.specs.Steps.{Lowered}
 use Rattle.booking.proofs.close_one.Given as goal
 
 abbrev pub invariant-loop-i : goal.invariant-loop-i

@@ -1,13 +1,10 @@
 use mathlib.Core.Path.{sym, ◌∙◌}
-use mathlib.Core.Logic.{⊎_elim}
-use Prim.Native.Nat.{◌<◌, ◌-◌}
+use Prim.Native.Nat.{◌<◌}
 use native.Mathlib.Omega.{arith}
 use lib.ListN.{get_or}
-use borrow.Author.Rules.{rules}
 use Rattle.tables.specs.Sizes.{members}
 use Rattle.finder.proofs.Tops.{payer-under}
-use Rattle.booking.specs.Steps.{Ends}
-use Rattle.booking.proofs.Closing.{Closing, closing-start, closing-small, closing-keep, closing-more, closing-go, closing-sum, closing_end}
+use Rattle.booking.proofs.Closing.{closing-start, closing-small, closing-keep, closing-more, closing-go, closing-sum, closing_end}
 use Rattle.booking.proofs.close_up.Goals as goal
 use Rattle.booking.proofs.close_up.Goals.{then-z-eq0, else-z-eq0}
 

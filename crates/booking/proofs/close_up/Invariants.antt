@@ -1,15 +1,8 @@
 -- `booking::close_up` meets its contract. The loop's invariant: the places before `to`, with what stays of the places from `from` on, are all
 -- that stays; the sum, with what leaves of them, is the sum of all that leaves; and the pass ends early only if no more are to leave.
-use mathlib.Core.Path.{sym, ◌∙◌}
-use mathlib.Core.Logic.{⊎_elim}
-use Prim.Native.Nat.{◌<◌, ◌-◌}
-use native.Mathlib.Omega.{arith}
-use lib.ListN.{get_or}
-use borrow.Author.Rules.{rules}
-use Rattle.tables.specs.Sizes.{members}
-use Rattle.finder.proofs.Tops.{payer-under}
+use Prim.Native.Nat.{◌-◌}
 use Rattle.booking.specs.Steps.{Ends}
-use Rattle.booking.proofs.Closing.{Closing, closing-start, closing-small, closing-keep, closing-more, closing-go, closing-sum, closing_end}
+use Rattle.booking.proofs.Closing.{Closing}
 use Rattle.booking.proofs.close_up.Given as goal
 
 abbrev pub invariant-loop-from : goal.invariant-loop-from

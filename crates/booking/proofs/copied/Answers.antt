@@ -1,10 +1,8 @@
 use mathlib.Core.Path.{refl, ◌∙◌}
-use Prim.Native.Nat.{◌-◌}
 use native.Mathlib.Omega.{arith}
-use borrow.Author.Rules.{rules}
 use Rattle.tables.specs.Sizes.{members}
 use Rattle.booking.specs.Booking.{listed}
-use Rattle.booking.proofs.Filling.{Filling, filling-start, filling-turn, filling-end, fill-whole}
+use Rattle.booking.proofs.Filling.{filling-start, filling-turn, filling-end, fill-whole}
 use Rattle.booking.proofs.copied.Goals as goal
 
 pub loop-i-init : goal.loop-i-init

@@ -1,11 +1,8 @@
 -- `booking::copied` meets its contract. The loop's invariant: the first i places hold the first i counts.
-use mathlib.Core.Path.{refl, ◌∙◌}
 use Prim.Native.Nat.{◌-◌}
-use native.Mathlib.Omega.{arith}
-use borrow.Author.Rules.{rules}
 use Rattle.tables.specs.Sizes.{members}
 use Rattle.booking.specs.Booking.{listed}
-use Rattle.booking.proofs.Filling.{Filling, filling-start, filling-turn, filling-end, fill-whole}
+use Rattle.booking.proofs.Filling.{Filling}
 use Rattle.booking.proofs.copied.Given as goal
 
 abbrev pub invariant-loop-i : goal.invariant-loop-i

@@ -1,5 +1,4 @@
 -- `booking::count_head` meets its contract: two stores, at two places.
-use borrow.Author.Rules.{rules}
 use mathlib.Core.Path.{sym, subst}
 use Prim.Native.Nat.{◌+◌, ◌≤◌}
 use native.Mathlib.Omega.{arith}

@@ -1,5 +1,4 @@
 -- `booking::count_off` meets its contract: the block of what was settled, filled and put back, and the waiting lowered by the sum of the counts.
-use borrow.Author.Rules.{rules}
 use mathlib.Core.Path.{◌≡◌, sym, ap, ◌∙◌, subst}
 use mathlib.Core.List.{List, ◌++◌}
 use Prim.Native.Nat.{ℕ, ◌+◌, ◌≤◌, ◌<◌}

@@ -1,13 +1,10 @@
 use mathlib.Core.Path.{sym, ◌∙◌}
-use mathlib.Core.Logic.{⊎_elim}
-use Prim.Native.Nat.{◌<◌, ◌-◌}
+use Prim.Native.Nat.{◌<◌}
 use native.Mathlib.Omega.{arith}
 use lib.ListN.{get_or}
-use borrow.Author.Rules.{rules}
 use Rattle.tables.specs.Sizes.{members}
 use Rattle.finder.proofs.Tops.{payer-under}
-use Rattle.booking.specs.Steps.{Ends}
-use Rattle.booking.proofs.Entering.{Underway, underway-start, underway-steady, underway-stay, underway-more, underway-leave, underway-end}
+use Rattle.booking.proofs.Entering.{underway-start, underway-steady, underway-stay, underway-more, underway-leave, underway-end}
 use Rattle.booking.proofs.enter_leaving.Goals as goal
 use Rattle.booking.proofs.enter_leaving.Goals.{then-z-ne0, else-z-ne0}
 

@@ -1,15 +1,8 @@
 -- `booking::enter_leaving` meets its contract. The loop's invariant: what is entered, with what is still to be entered, is all that leaves, and
 -- the pass ends early only if no more are to leave.
-use mathlib.Core.Path.{sym, ◌∙◌}
-use mathlib.Core.Logic.{⊎_elim}
-use Prim.Native.Nat.{◌<◌, ◌-◌}
-use native.Mathlib.Omega.{arith}
-use lib.ListN.{get_or}
-use borrow.Author.Rules.{rules}
-use Rattle.tables.specs.Sizes.{members}
-use Rattle.finder.proofs.Tops.{payer-under}
+use Prim.Native.Nat.{◌-◌}
 use Rattle.booking.specs.Steps.{Ends}
-use Rattle.booking.proofs.Entering.{Underway, underway-start, underway-steady, underway-stay, underway-more, underway-leave, underway-end}
+use Rattle.booking.proofs.Entering.{Underway}
 use Rattle.booking.proofs.enter_leaving.Given as goal
 
 abbrev pub invariant-loop-i : goal.invariant-loop-i

@@ -1,9 +1,6 @@
-use borrow.Author.Rules.{rules}
 use mathlib.Core.Path.{sym, ◌∙◌}
-use Prim.Native.Nat.{◌≤◌, ◌-◌}
 use native.Mathlib.Omega.{arith}
-use lib.ListN.{length}
-use Rattle.booking.proofs.Heads.{Passed, passed_none, passed-one}
+use Rattle.booking.proofs.Heads.{passed_none, passed-one}
 use Rattle.booking.proofs.first_of.Goals as goal
 
 pub loop-i-init : goal.loop-i-init

@@ -1,10 +1,7 @@
 -- `booking::first_of` meets its contract. The invariant: none of the payments before place i is paid by the member.
-use borrow.Author.Rules.{rules}
-use mathlib.Core.Path.{sym, ◌∙◌}
 use Prim.Native.Nat.{◌≤◌, ◌-◌}
-use native.Mathlib.Omega.{arith}
 use lib.ListN.{length}
-use Rattle.booking.proofs.Heads.{Passed, passed_none, passed-one}
+use Rattle.booking.proofs.Heads.{Passed}
 use Rattle.booking.proofs.first_of.Given as goal
 
 abbrev pub invariant-loop-i : goal.invariant-loop-i

@@ -1,9 +1,7 @@
-use borrow.Author.Rules.{rules}
-use Prim.Native.Nat.{◌≤◌, ◌-◌}
+use Prim.Native.Nat.{◌-◌}
 use mathlib.Core.Path.{◌≡◌}
 use native.Mathlib.Omega.{arith}
 use lib.ListN.{length}
-use Rattle.booking.specs.Steps.{Lowered}
 use Rattle.booking.proofs.Lowering.{lowered_none, lowered-one}
 use Rattle.booking.proofs.lower.Goals as goal
 

@@ -1,11 +1,6 @@
 -- `booking::lower` meets its contract. The invariant: the places before i have moved down.
-use borrow.Author.Rules.{rules}
 use Prim.Native.Nat.{◌≤◌, ◌-◌}
-use mathlib.Core.Path.{◌≡◌}
-use native.Mathlib.Omega.{arith}
-use lib.ListN.{length}
 use Rattle.booking.specs.Steps.{Lowered}
-use Rattle.booking.proofs.Lowering.{lowered_none, lowered-one}
 use Rattle.booking.proofs.lower.Given as goal
 
 abbrev pub invariant-loop-i : goal.invariant-loop-i

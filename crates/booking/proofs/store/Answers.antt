@@ -1,11 +1,7 @@
-use Prim.Native.Nat.{◌-◌}
 use native.Mathlib.Omega.{arith}
-use lib.IntN.{pos}
-use lib.ListN.{get_or}
-use borrow.Author.Rules.{rules}
 use Rattle.rule.proofs.Ints.{plain}
 use Rattle.tables.specs.Sizes.{members}
-use Rattle.booking.proofs.Filling.{Filling, filling-start, filling-turn, filling-end}
+use Rattle.booking.proofs.Filling.{filling-start, filling-turn, filling-end}
 use Rattle.booking.proofs.store.Goals as goal
 
 pub loop-i-init : goal.loop-i-init

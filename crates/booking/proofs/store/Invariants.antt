@@ -1,12 +1,9 @@
 -- `booking::store` meets its contract. The loop's invariant: the first i accounts are the first i positions.
 use Prim.Native.Nat.{◌-◌}
-use native.Mathlib.Omega.{arith}
 use lib.IntN.{pos}
 use lib.ListN.{get_or}
-use borrow.Author.Rules.{rules}
-use Rattle.rule.proofs.Ints.{plain}
 use Rattle.tables.specs.Sizes.{members}
-use Rattle.booking.proofs.Filling.{Filling, filling-start, filling-turn, filling-end}
+use Rattle.booking.proofs.Filling.{Filling}
 use Rattle.booking.proofs.store.Given as goal
 
 abbrev pub invariant-loop-i : goal.invariant-loop-i

@@ -1,9 +1,7 @@
 use mathlib.Core.Path.{◌≡◌, refl, ap, ◌∙◌}
-use Prim.Native.Nat.{◌*◌, ◌≤◌, ◌-◌}
 use native.Mathlib.Numerals.{add-one}
 use native.Mathlib.Omega.{arith}
 use lib.ListN.{length}
-use borrow.Author.Rules.{rules}
 use Rattle.rule.specs.Kernel.{sum}
 use Rattle.booking.specs.Booking.{listed}
 use Rattle.booking.proofs.tally.Goals as goal

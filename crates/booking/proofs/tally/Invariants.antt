@@ -1,10 +1,7 @@
 -- `booking::tally` meets its contract. The loop's invariant: n is the sum of the first i counts, each below 2^16.
-use mathlib.Core.Path.{◌≡◌, refl, ap, ◌∙◌}
+use mathlib.Core.Path.{◌≡◌}
 use Prim.Native.Nat.{◌*◌, ◌≤◌, ◌-◌}
-use native.Mathlib.Numerals.{add-one}
-use native.Mathlib.Omega.{arith}
 use lib.ListN.{length}
-use borrow.Author.Rules.{rules}
 use Rattle.rule.specs.Kernel.{sum}
 use Rattle.booking.specs.Booking.{listed}
 use Rattle.booking.proofs.tally.Given as goal

@@ -1,9 +1,5 @@
 use native.Mathlib.Omega.{arith}
-use borrow.Author.Rules.{rules}
-use mathlib.Core.Path.{◌≡◌, refl, sym, ◌∙◌}
-use Prim.Native.Nat.{◌≤◌, ◌-◌}
-use lib.ListN.{length, drop}
-use Rattle.dayfile.specs.Fields.{same}
+use mathlib.Core.Path.{refl, sym, ◌∙◌}
 use Rattle.dayfile.proofs.Fields.{same_length, same_step, same-differ, same_end}
 use Rattle.dayfile.proofs.equal.Goals as goal
 

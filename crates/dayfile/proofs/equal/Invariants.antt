@@ -1,11 +1,8 @@
 -- `dayfile::equal` meets its contract. The invariant: the two texts are the same exactly if what is left of them, from i on, is.
-use native.Mathlib.Omega.{arith}
-use borrow.Author.Rules.{rules}
-use mathlib.Core.Path.{◌≡◌, refl, sym, ◌∙◌}
+use mathlib.Core.Path.{◌≡◌}
 use Prim.Native.Nat.{◌≤◌, ◌-◌}
 use lib.ListN.{length, drop}
 use Rattle.dayfile.specs.Fields.{same}
-use Rattle.dayfile.proofs.Fields.{same_length, same_step, same-differ, same_end}
 use Rattle.dayfile.proofs.equal.Given as goal
 
 abbrev pub invariant-loop-i : goal.invariant-loop-i

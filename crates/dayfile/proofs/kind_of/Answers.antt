@@ -1,6 +1,5 @@
 -- `dayfile::kind_of` meets its contract. The word is the first in the list that it equals.
 use mathlib.Core.Path.{sym, ◌∙◌}
-use borrow.Author.Rules.{rules}
 use Rattle.dayfile.proofs.kind_of.Goals as goal
 
 pub returns-then-equal : goal.returns-then-equal

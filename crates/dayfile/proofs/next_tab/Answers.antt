@@ -1,9 +1,4 @@
 use native.Mathlib.Omega.{arith}
-use borrow.Author.Rules.{rules}
-use mathlib.Core.Path.{◌≡◌}
-use Prim.Native.Nat.{◌≤◌, ◌-◌, ◌+◌}
-use lib.ListN.{length, drop}
-use Rattle.dayfile.specs.Fields.{up_to}
 use Rattle.dayfile.proofs.Fields.{tab-here, tab-later, tab-end}
 use Rattle.dayfile.proofs.next_tab.Goals as goal
 

@@ -1,11 +1,8 @@
 -- `dayfile::next_tab` meets its contract. The invariant: the next tab from i on is the next one from the first place on.
-use native.Mathlib.Omega.{arith}
-use borrow.Author.Rules.{rules}
 use mathlib.Core.Path.{◌≡◌}
 use Prim.Native.Nat.{◌≤◌, ◌-◌, ◌+◌}
 use lib.ListN.{length, drop}
 use Rattle.dayfile.specs.Fields.{up_to}
-use Rattle.dayfile.proofs.Fields.{tab-here, tab-later, tab-end}
 use Rattle.dayfile.proofs.next_tab.Given as goal
 
 abbrev pub invariant-loop-i : goal.invariant-loop-i

@@ -1,7 +1,6 @@
 -- `dayfile::read_line` meets its contract. The first word decides how the other fields are read.
 use native.Mathlib.Omega.{arith}
 use lib.ListN.{length-take}
-use borrow.Author.Rules.{rules}
 use Rattle.dayfile.proofs.Entries.{line-member, line-kind}
 use Rattle.dayfile.proofs.read_line.Goals as goal
 

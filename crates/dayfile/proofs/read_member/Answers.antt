@@ -1,6 +1,5 @@
 -- `dayfile::read_member` meets its contract. The fields follow each other from tab to tab.
 use native.Mathlib.Omega.{arith}
-use borrow.Author.Rules.{rules}
 use Rattle.dayfile.proofs.Entries.{no_field, one_field, two_fields, more-fields, three-fields}
 use Rattle.dayfile.proofs.read_member.Goals as goal
 

@@ -1,13 +1,12 @@
-use lib.ListN.{take, drop, length}
-use Prim.Native.Nat.{◌+◌, ◌-◌}
+use lib.ListN.{take, drop}
+use Prim.Native.Nat.{◌-◌}
 use mathlib.Core.List.{[]}
 use mathlib.Core.Path.{◌≡◌, refl, sym, ap, ◌∙◌}
 use native.Mathlib.Nat.{add-zero}
 use native.Mathlib.Omega.{arith}
-use borrow.Author.Rules.{rules}
 use Rattle.numbers.specs.Numbers.{number_of}
 use Rattle.numbers.specs.declared.Number.TheVariants.{Value, Bad}
-use Rattle.dayfile.proofs.Numbers.{Turned, turn-stop, turn_on, step-full, step_field, step_end}
+use Rattle.dayfile.proofs.Numbers.{turn-stop, turn_on, step-full, step_field, step_end}
 use Rattle.dayfile.specs.Entries.{most_counts, numbers_of, good, short}
 use Rattle.dayfile.specs.Fields.{fields_from}
 use Rattle.dayfile.specs.declared.Count.TheVariants.{Good}

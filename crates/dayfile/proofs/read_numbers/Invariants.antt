@@ -1,18 +1,10 @@
 -- `dayfile::read_numbers` meets its contract. The invariant: the n numbers that were read, with what is read of the line from at on, are
 -- all that is read of it.
-use lib.ListN.{take, drop, length}
+use lib.ListN.{length}
 use Prim.Native.Nat.{◌+◌, ◌-◌}
-use mathlib.Core.List.{[]}
-use mathlib.Core.Path.{◌≡◌, refl, sym, ap, ◌∙◌}
-use native.Mathlib.Nat.{add-zero}
-use native.Mathlib.Omega.{arith}
-use borrow.Author.Rules.{rules}
-use Rattle.numbers.specs.Numbers.{number_of}
-use Rattle.numbers.specs.declared.Number.TheVariants.{Value, Bad}
-use Rattle.dayfile.proofs.Numbers.{Turned, turn-stop, turn_on, step-full, step_field, step_end}
-use Rattle.dayfile.specs.Entries.{most_counts, numbers_of, good, short}
+use Rattle.dayfile.proofs.Numbers.{Turned}
+use Rattle.dayfile.specs.Entries.{most_counts, numbers_of}
 use Rattle.dayfile.specs.Fields.{fields_from}
-use Rattle.dayfile.specs.declared.Count.TheVariants.{Good}
 use Rattle.dayfile.proofs.read_numbers.Given as goal
 
 abbrev pub invariant-loop-at : goal.invariant-loop-at

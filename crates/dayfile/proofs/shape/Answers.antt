@@ -1,6 +1,5 @@
 -- `dayfile::shape` meets its contract. Each kind has its number of fields.
 use native.Mathlib.Omega.{arith}
-use borrow.Author.Rules.{rules}
 use Rattle.dayfile.proofs.Entries.{kind-house, kind-pay, kind-deposit, kind-release, kind-group, kind-resolve, kind-end}
 use Rattle.dayfile.proofs.shape.Goals as goal
 

@@ -1,5 +1,4 @@
 -- `daylines::call` meets its contract: no loop; each kind of line is a case.
-use borrow.Author.Rules.{rules}
 use Rattle.daylines.proofs.call.Goals as goal
 
 pub group-requires : goal.group-requires

@@ -6,7 +6,6 @@ use Rattle.tables.specs.Layout.{Tables, tables}
 use Rattle.answers.proofs.Outcomes.{answer-is}
 use Rattle.daylines.specs.Calls.{saying, group_says}
 use Rattle.daylines.proofs.Settling.{group-narrowed}
-use borrow.Author.Rules.{rules}
 use Rattle.daylines.proofs.group.Goals as goal
 
 pub slice_bounds-group-end : goal.slice_bounds-group-end

@@ -2,7 +2,6 @@
 use borrow.Author.Tests.{lt-ltb, le-ltb}
 use native.Mathlib.Omega.{arith}
 use Rattle.daylines.specs.Calls.{most_count}
-use borrow.Author.Rules.{rules}
 use Rattle.daylines.proofs.narrow.Goals as goal
 
 pub returns-then-x-lt-MOST_COUNT : goal.returns-then-x-lt-MOST_COUNT

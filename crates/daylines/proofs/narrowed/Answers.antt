@@ -1,10 +1,7 @@
 use Rattle.daylines.proofs.Settling.{least-turn}
-use Rattle.daylines.specs.Calls.{capped}
-use lib.ListN.{length, get_or, length-set}
+use lib.ListN.{length-set}
 use native.Mathlib.Omega.{arith}
-use Rattle.tables.specs.Sizes.{members}
-use Prim.Native.Nat.{ℕ, ◌-◌, ◌≤◌, ◌<◌}
-use mathlib.Core.Path.{◌≡◌, refl}
+use mathlib.Core.Path.{refl}
 use Rattle.daylines.proofs.narrowed.Goals as goal
 
 pub loop-i-init : goal.loop-i-init

@@ -1,11 +1,9 @@
 -- `daylines::narrowed` meets its contract. The invariant: the first i counts stand in the array, in 16 bits.
-use Rattle.daylines.proofs.Settling.{least-turn}
 use Rattle.daylines.specs.Calls.{capped}
-use lib.ListN.{length, get_or, length-set}
-use native.Mathlib.Omega.{arith}
+use lib.ListN.{length, get_or}
 use Rattle.tables.specs.Sizes.{members}
 use Prim.Native.Nat.{ℕ, ◌-◌, ◌≤◌, ◌<◌}
-use mathlib.Core.Path.{◌≡◌, refl}
+use mathlib.Core.Path.{◌≡◌}
 use Rattle.daylines.proofs.narrowed.Given as goal
 
 abbrev pub invariant-loop-i : goal.invariant-loop-i

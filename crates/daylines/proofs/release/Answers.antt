@@ -2,7 +2,6 @@
 use mathlib.Core.Path.{ap}
 use Rattle.answers.proofs.Outcomes.{answer-is}
 use Rattle.daylines.specs.Calls.{saying, release_says}
-use borrow.Author.Rules.{rules}
 use Rattle.daylines.proofs.release.Goals as goal
 
 pub returns-in-Done : goal.returns-in-Done

@@ -7,7 +7,6 @@ use native.Mathlib.Omega.{arith}
 use Rattle.tables.specs.Sizes.{members}
 use Rattle.tables.specs.Layout.{Tables, tables, members_in}
 use Rattle.daylines.proofs.Settling.{resolve-line, never-refused}
-use borrow.Author.Rules.{rules}
 use Rattle.daylines.proofs.resolve.Goals as goal
 
 pub slice_bounds-resolve-end : goal.slice_bounds-resolve-end

@@ -4,7 +4,6 @@ use lib.ListN.{get_or}
 use mir.Syntax.{w64}
 use mir.Val.{SFits}
 use Rattle.rule.proofs.Ints.{ints, plus, plain, held}
-use borrow.Author.Rules.{rules}
 use Rattle.finder.proofs.add.Goals as goal
 
 pub overflow_add-positions : goal.overflow_add-positions

@@ -1,12 +1,10 @@
 use mathlib.Core.Path.{◌≡◌}
-use mathlib.Core.Logic.{⊎_elim}
-use Prim.Native.Nat.{◌-◌, ◌≤◌, ◌<◌}
+use Prim.Native.Nat.{◌<◌}
 use native.Mathlib.Omega.{arith}
 use lib.ListN.{get_or}
 use Rattle.tables.specs.Sizes.{members}
 use Rattle.finder.proofs.Tops.{payer-under}
-use Rattle.finder.proofs.Counts.{Counted, counted_start, counted-in, counted-out, counted-end}
-use borrow.Author.Rules.{rules}
+use Rattle.finder.proofs.Counts.{counted_start, counted-in, counted-out, counted-end}
 use Rattle.finder.proofs.count_below.Goals as goal
 use Rattle.finder.proofs.count_below.Goals.{then-m-tops, else-m-tops}
 

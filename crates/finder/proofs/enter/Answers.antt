@@ -2,7 +2,6 @@
 use mathlib.Core.Path.{◌∙◌}
 use native.Mathlib.Omega.{arith}
 use Rattle.finder.proofs.Tops.{payer-under, payee-under}
-use borrow.Author.Rules.{rules}
 use Rattle.finder.proofs.enter.Goals as goal
 
 pub transfer-requires : goal.transfer-requires

@@ -1,10 +1,6 @@
 use mathlib.Core.Path.{◌≡◌, refl, sym, ◌∙◌}
-use Prim.Native.Nat.{◌-◌, ◌≤◌}
 use native.Mathlib.Omega.{arith}
-use lib.ListN.{length}
-use Rattle.finder.specs.Positions.{Entered}
 use Rattle.finder.proofs.Start.{entered-start, entered-next}
-use borrow.Author.Rules.{rules}
 use Rattle.finder.proofs.enter_all.Goals as goal
 
 pub loop-m-init : goal.loop-m-init

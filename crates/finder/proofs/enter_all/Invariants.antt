@@ -1,11 +1,8 @@
 -- `finder::enter_all` meets its contract. The loop's invariant: the first `m` payments are entered. The measure is how many are left.
-use mathlib.Core.Path.{◌≡◌, refl, sym, ◌∙◌}
+use mathlib.Core.Path.{◌≡◌}
 use Prim.Native.Nat.{◌-◌, ◌≤◌}
-use native.Mathlib.Omega.{arith}
 use lib.ListN.{length}
 use Rattle.finder.specs.Positions.{Entered}
-use Rattle.finder.proofs.Start.{entered-start, entered-next}
-use borrow.Author.Rules.{rules}
 use Rattle.finder.proofs.enter_all.Given as goal
 
 abbrev pub invariant-loop-m : goal.invariant-loop-m

@@ -1,10 +1,5 @@
-use mathlib.Core.Path.{◌≡◌, refl, sym, ◌∙◌}
-use mathlib.Core.Bool.{cond}
-use Prim.Native.Nat.{◌+◌}
-use lib.ListN.{length}
-use Rattle.finder.specs.Tops.{height}
-use Rattle.finder.proofs.Rounds.{ready_on, Searching, search-start, search-next, search-end, search-falls}
-use borrow.Author.Rules.{rules}
+use mathlib.Core.Path.{refl, sym, ◌∙◌}
+use Rattle.finder.proofs.Rounds.{ready_on, search-start, search-next, search-end, search-falls}
 use Rattle.finder.proofs.find.Goals as goal
 
 pub loop-again-init : goal.loop-again-init

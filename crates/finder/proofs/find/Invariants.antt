@@ -1,12 +1,11 @@
 -- `finder::find` meets its contract. The loop's invariant: every house that stood so at first still does, and once a round took nothing off
 -- none is short. The measure is the sum of the tops, and one more while another round is due.
-use mathlib.Core.Path.{◌≡◌, refl, sym, ◌∙◌}
+use mathlib.Core.Path.{◌≡◌}
 use mathlib.Core.Bool.{cond}
 use Prim.Native.Nat.{◌+◌}
 use lib.ListN.{length}
 use Rattle.finder.specs.Tops.{height}
-use Rattle.finder.proofs.Rounds.{ready_on, Searching, search-start, search-next, search-end, search-falls}
-use borrow.Author.Rules.{rules}
+use Rattle.finder.proofs.Rounds.{Searching}
 use Rattle.finder.proofs.find.Given as goal
 
 abbrev pub invariant-loop-again : goal.invariant-loop-again

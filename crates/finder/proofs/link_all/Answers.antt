@@ -1,12 +1,10 @@
 use mathlib.Core.Path.{◌≡◌, refl}
-use Prim.Native.Nat.{◌-◌, ◌≤◌, ◌<◌}
+use Prim.Native.Nat.{◌<◌}
 use native.Mathlib.Omega.{arith}
 use lib.ListN.{length, get_or, length-set}
 use Rattle.tables.specs.Sizes.{members}
-use Rattle.finder.specs.Tops.{AllIn, Linked}
 use Rattle.finder.proofs.Tops.{payer-under}
 use Rattle.finder.proofs.Links.{all-in-start, linked-start, all-in-next, linked-next}
-use borrow.Author.Rules.{rules}
 use Rattle.finder.proofs.link_all.Goals as goal
 
 pub loop-m-init : goal.loop-m-init

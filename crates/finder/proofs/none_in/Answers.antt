@@ -1,11 +1,9 @@
 use mathlib.Core.Path.{◌≡◌, refl, ◌∙◌}
-use Prim.Native.Nat.{ℕ, ◌-◌, ◌≤◌, ◌<◌}
+use Prim.Native.Nat.{ℕ}
 use native.Mathlib.Omega.{arith}
-use lib.ListN.{length, get_or, length-set}
+use lib.ListN.{get_or, length-set}
 use borrow.Author.Count.{below_none}
-use Rattle.tables.specs.Sizes.{members}
 use Rattle.finder.proofs.Links.{none-next}
-use borrow.Author.Rules.{rules}
 use Rattle.finder.proofs.none_in.Goals as goal
 
 pub loop-i-init : goal.loop-i-init

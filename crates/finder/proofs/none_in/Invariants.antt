@@ -1,12 +1,8 @@
 -- `finder::none_in` meets its contract. The loop's invariant: the tops of the first `i` members are 0. The measure is how many are left.
-use mathlib.Core.Path.{◌≡◌, refl, ◌∙◌}
+use mathlib.Core.Path.{◌≡◌}
 use Prim.Native.Nat.{ℕ, ◌-◌, ◌≤◌, ◌<◌}
-use native.Mathlib.Omega.{arith}
-use lib.ListN.{length, get_or, length-set}
-use borrow.Author.Count.{below_none}
+use lib.ListN.{length, get_or}
 use Rattle.tables.specs.Sizes.{members}
-use Rattle.finder.proofs.Links.{none-next}
-use borrow.Author.Rules.{rules}
 use Rattle.finder.proofs.none_in.Given as goal
 
 abbrev pub invariant-loop-i : goal.invariant-loop-i

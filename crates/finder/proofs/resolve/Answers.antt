@@ -1,6 +1,5 @@
 -- `finder::resolve` meets its contract: with every payment entered, in and linked, the finder can start.
 use Rattle.finder.proofs.Start.{ready-start, resolved}
-use borrow.Author.Rules.{rules}
 use Rattle.finder.proofs.resolve.Goals as goal
 
 pub link_all-requires : goal.link_all-requires

@@ -1,11 +1,8 @@
 use mathlib.Core.Path.{◌≡◌, refl, sym, ◌∙◌}
-use mathlib.Core.Logic.{⊎_elim}
-use Prim.Native.Nat.{◌+◌, ◌-◌, ◌≤◌}
+use Prim.Native.Nat.{◌+◌}
 use native.Mathlib.Omega.{arith}
-use lib.ListN.{length}
 use Rattle.finder.specs.Finder.{Rounded}
 use Rattle.finder.proofs.Rounds.{ready_on, round-start, round-off, round-past}
-use borrow.Author.Rules.{rules}
 use Rattle.finder.proofs.round.Goals as goal
 use Rattle.finder.proofs.round.Goals.{then-step, else-step}
 

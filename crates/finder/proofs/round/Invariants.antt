@@ -1,12 +1,8 @@
 -- `finder::round` meets its contract. The loop's invariant: the round is past the members below `member`. The measure is how many are left.
-use mathlib.Core.Path.{◌≡◌, refl, sym, ◌∙◌}
-use mathlib.Core.Logic.{⊎_elim}
-use Prim.Native.Nat.{◌+◌, ◌-◌, ◌≤◌}
-use native.Mathlib.Omega.{arith}
+use mathlib.Core.Path.{◌≡◌}
+use Prim.Native.Nat.{◌-◌, ◌≤◌}
 use lib.ListN.{length}
 use Rattle.finder.specs.Finder.{Rounded}
-use Rattle.finder.proofs.Rounds.{ready_on, round-start, round-off, round-past}
-use borrow.Author.Rules.{rules}
 use Rattle.finder.proofs.round.Given as goal
 
 abbrev pub invariant-loop-member : goal.invariant-loop-member

@@ -5,7 +5,6 @@ use native.Mathlib.Omega.{arith}
 use lib.ListN.{get_or}
 use Rattle.finder.specs.Tops.{LastAt}
 use Rattle.finder.proofs.Tops.{payee-under, last-behind}
-use borrow.Author.Rules.{rules}
 use Rattle.finder.proofs.take_off.Goals as goal
 
 pub transfer-requires : goal.transfer-requires

@@ -10,7 +10,6 @@ use Rattle.rule.proofs.Ints.{ints, minus, plain}
 use Rattle.finder.specs.Limits.{far, far_amount}
 use Rattle.finder.specs.Positions.{added}
 use Rattle.finder.proofs.Positions.{minus-far, given-far}
-use borrow.Author.Rules.{rules}
 use Rattle.finder.proofs.transfer.Goals as goal
 
 pub overflow_sub-by : goal.overflow_sub-by

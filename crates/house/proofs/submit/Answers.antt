@@ -1,5 +1,4 @@
 -- `house::submit` meets its contract: no loop; the tables hold a state, or the answer is 1.
-use borrow.Author.Rules.{rules}
 use mathlib.Core.Path.{sym, ◌∙◌}
 use Rattle.tables.proofs.States.{state-holds}
 use Rattle.tables.proofs.Tests.{flag-no, flag-yes}

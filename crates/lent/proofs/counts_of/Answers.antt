@@ -7,7 +7,6 @@ use lib.Seq.{length-take-le}
 use Rattle.words.specs.Row.{as_it_is}
 use Rattle.tables.specs.Sizes.{members}
 use Rattle.lent.proofs.Lengths.{part-read}
-use borrow.Author.Rules.{rules}
 use Rattle.lent.proofs.counts_of.Goals as goal
 
 pub slice_bounds-decode_u16-end : goal.slice_bounds-decode_u16-end

@@ -2,7 +2,6 @@
 use mathlib.Core.Path.{sym}
 use native.Mathlib.Omega.{arith}
 use Rattle.lent.proofs.Lengths.{entries-rest, entries-many, entries-all, entries-within}
-use borrow.Author.Rules.{rules}
 use Rattle.lent.proofs.entries_of.Goals as goal
 
 pub returns-then-bytes-width-ne0 : goal.returns-then-bytes-width-ne0

@@ -8,7 +8,6 @@ use mir.Syntax.{w64}
 use mir.Val.{to_z}
 use Rattle.tables.specs.Sizes.{members}
 use Rattle.lent.proofs.Lengths.{part-read}
-use borrow.Author.Rules.{rules}
 use Rattle.lent.proofs.signed_of.Goals as goal
 
 pub slice_bounds-decode_i64-end : goal.slice_bounds-decode_i64-end

@@ -1,5 +1,4 @@
 -- `lent::store` meets its contract: no loop; each row is put behind the one before.
-use borrow.Author.Rules.{rules}
 use Rattle.lent.proofs.store.Goals as goal
 
 pub returns : goal.returns

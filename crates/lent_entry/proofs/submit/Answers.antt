@@ -9,7 +9,6 @@ use Rattle.answers.specs.Outcome.{called}
 use Rattle.entry.specs.Submit.{submit_act}
 use Rattle.lent.specs.Asks.{told_submitted}
 use Rattle.lent.proofs.Runs.{accepted, refused, put-none}
-use borrow.Author.Rules.{rules}
 use Rattle.lent_entry.proofs.submit.Goals as goal
 
 pub returns-in-Done : goal.returns-in-Done

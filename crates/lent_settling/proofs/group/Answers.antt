@@ -9,7 +9,6 @@ use Rattle.answers.specs.Outcome.{called}
 use Rattle.settling.specs.Group.{group_act}
 use Rattle.lent.specs.Asks.{told_grouped}
 use Rattle.lent.proofs.Runs.{accepted, refused, put-none}
-use borrow.Author.Rules.{rules}
 use Rattle.lent_settling.proofs.group.Goals as goal
 
 pub returns-in-Done : goal.returns-in-Done

@@ -9,7 +9,6 @@ use Rattle.answers.specs.Outcome.{called}
 use Rattle.resolving.specs.Resolve.{resolve_act}
 use Rattle.lent.specs.Asks.{told_resolved}
 use Rattle.lent.proofs.Runs.{accepted, refused, with-list}
-use borrow.Author.Rules.{rules}
 use Rattle.lent_settling.proofs.resolve.Goals as goal
 
 pub encode_u16-requires : goal.encode_u16-requires

@@ -2,7 +2,6 @@
 use mathlib.Core.Path.{◌∙◌}
 use Rattle.tables.specs.Layout.{Tables, tables}
 use Rattle.night.proofs.Found.{stands_at, read_small, house-any, member-any}
-use borrow.Author.Rules.{rules}
 use Rattle.night.proofs.answer.Goals as goal
 
 pub member_line-requires : goal.member_line-requires

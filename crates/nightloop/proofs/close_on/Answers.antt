@@ -3,7 +3,6 @@ use Rattle.nightloop.proofs.Steps.{fed-closed}
 use Rattle.session.proofs.Desks.{fit_at}
 use native.Mathlib.Omega.{arith}
 use mathlib.Core.Path.{sym}
-use borrow.Author.Rules.{rules}
 use Rattle.nightloop.proofs.close_on.Goals as goal
 
 pub close-v-requires : goal.close-v-requires

@@ -4,7 +4,6 @@ use Rattle.session.proofs.Desks.{fit_at}
 use lib.ListN.{length-take}
 use native.Mathlib.Omega.{arith}
 use mathlib.Core.Path.{sym}
-use borrow.Author.Rules.{rules}
 use Rattle.nightloop.proofs.eat_on.Goals as goal
 
 pub slice_bounds-feed-end : goal.slice_bounds-feed-end

@@ -4,7 +4,6 @@ use lib.IntN.{pos}
 use lib.Signed.{lt_z}
 use mathlib.Core.Bool.{true, false}
 use mathlib.Core.Path.{◌≡◌}
-use borrow.Author.Rules.{rules}
 use Rattle.nightloop.proofs.ended.Goals as goal
 
 pub returns-then-got-lt0 : goal.returns-then-got-lt0

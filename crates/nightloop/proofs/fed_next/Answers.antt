@@ -1,6 +1,5 @@
 -- `nightloop::fed_next` meets its contract: no loop.
 use mathlib.Core.Path.{sym, ◌∙◌}
-use borrow.Author.Rules.{rules}
 use Rattle.nightloop.proofs.fed_next.Goals as goal
 
 pub returns-then-has_room : goal.returns-then-has_room

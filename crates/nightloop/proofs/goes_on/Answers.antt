@@ -1,5 +1,4 @@
 -- `nightloop::goes_on` meets its contract: no loop.
-use borrow.Author.Rules.{rules}
 use Rattle.nightloop.proofs.goes_on.Goals as goal
 
 pub returns-in-Read : goal.returns-in-Read

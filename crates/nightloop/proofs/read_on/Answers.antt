@@ -2,7 +2,6 @@
 use Rattle.nightloop.specs.Steps.{taken_as}
 use Rattle.rule.proofs.Ints.{plain}
 use lib.ListN.{length}
-use borrow.Author.Rules.{rules}
 use mathlib.Core.Path.{◌≡◌}
 use Rattle.nightloop.proofs.read_on.Goals as goal
 

@@ -4,8 +4,7 @@ use Rattle.nightloop.specs.declared.Next.{Next}
 use Rattle.nightloop.specs.declared.Run.{Run}
 use Rattle.nightloop.specs.Steps.{SoFar}
 use Rattle.tables.specs.Layout.{Tables, tables}
-use mathlib.Core.Path.{◌≡◌, subst, sym}
-use borrow.Author.Rules.{rules}
+use mathlib.Core.Path.{subst, sym}
 use Rattle.nightloop.proofs.step.Goals as goal
 
 pub returns-in-Read : goal.returns-in-Read

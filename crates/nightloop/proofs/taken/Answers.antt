@@ -5,7 +5,6 @@ use Rattle.rule.proofs.Ints.{plain}
 use lib.IntN.{pos}
 use lib.ListN.{length}
 use lib.Signed.{lt_z}
-use borrow.Author.Rules.{rules}
 use borrow.Author.Tests.{lt-ltb, le-ltb}
 use mathlib.Core.Bool.{cond}
 use mathlib.Core.Path.{◌≡◌}

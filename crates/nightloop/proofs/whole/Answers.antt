@@ -1,12 +1,11 @@
 use Rattle.nightloop.proofs.Steps.{stood-first, step_left}
 use Rattle.nightloop.specs.declared.Next.TheVariants as N
-use Rattle.nightloop.specs.Steps.{Memory, run_of, SoFar}
+use Rattle.nightloop.specs.Steps.{run_of, SoFar}
 use Rattle.desk.specs.declared.State.{State}
 use Rattle.tables.specs.Layout.{tables}
 use Prim.Native.Nat.{◌<◌}
-use mathlib.Core.Path.{◌≡◌, subst, sym}
+use mathlib.Core.Path.{subst, sym}
 use native.Mathlib.Omega.{arith}
-use borrow.Author.Rules.{rules}
 use Rattle.nightloop.proofs.whole.Goals as goal
 
 pub loop-streams-init : goal.loop-streams-init

@@ -7,7 +7,6 @@ use lib.ListN.{length-take}
 use native.Mathlib.Omega.{arith}
 use mathlib.Core.Path.{refl, ap}
 use mathlib.Core.Logic.{inl, inr}
-use borrow.Author.Rules.{rules}
 use Rattle.nightloop.proofs.write_out.Goals as goal
 
 -- a run with its place, what comes next and the night given

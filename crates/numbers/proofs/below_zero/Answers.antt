@@ -1,6 +1,5 @@
 -- `numbers::below_zero` meets its contract. Each number but 0 has its negative.
 use native.Mathlib.Omega.{arith}
-use borrow.Author.Rules.{rules}
 use Rattle.numbers.proofs.Signs.{value-small, negated-at, none_below}
 use Rattle.numbers.proofs.below_zero.Goals as goal
 

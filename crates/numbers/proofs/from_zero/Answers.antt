@@ -1,6 +1,5 @@
 -- `numbers::from_zero` meets its contract. A number below 10^18 is itself as a whole number.
 use native.Mathlib.Omega.{arith}
-use borrow.Author.Rules.{rules}
 use Rattle.numbers.proofs.Signs.{value-small, kept}
 use Rattle.numbers.proofs.from_zero.Goals as goal
 

@@ -1,6 +1,5 @@
 -- `numbers::magnitude` meets its contract. The sign is taken off where there is one.
 use native.Mathlib.Omega.{arith}
-use borrow.Author.Rules.{rules}
 use Rattle.numbers.proofs.Signs.{neg-fits, neg_is, pos-is}
 use Rattle.numbers.proofs.magnitude.Goals as goal
 

@@ -1,11 +1,7 @@
 use native.Mathlib.Omega.{arith}
-use borrow.Author.Rules.{rules}
 use mathlib.Core.Path.{◌≡◌, refl, sym, ap, ◌∙◌}
-use mathlib.Core.Logic.{⊎_elim}
-use Prim.Native.Nat.{◌≤◌, ◌+◌}
 use lib.ListN.{length, length-set}
-use lib.Seq.{sets}
-use Rattle.numbers.specs.Numbers.{last_digits, width_of, digits_of}
+use Rattle.numbers.specs.Numbers.{width_of}
 use Rattle.numbers.proofs.Writing.{put_two, put_one, put-end, length_digits}
 use Rattle.numbers.proofs.put_number.Goals as goal
 use Rattle.numbers.proofs.put_number.Goals.{then-k-gt0, else-k-gt0}

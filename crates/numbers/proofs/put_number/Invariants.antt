@@ -1,14 +1,10 @@
 -- `numbers::put_number` meets its contract. The invariant: the digits that are left, k of y, written into what is there now, give all
 -- digits of x written into what was there at first.
-use native.Mathlib.Omega.{arith}
-use borrow.Author.Rules.{rules}
-use mathlib.Core.Path.{◌≡◌, refl, sym, ap, ◌∙◌}
-use mathlib.Core.Logic.{⊎_elim}
+use mathlib.Core.Path.{◌≡◌}
 use Prim.Native.Nat.{◌≤◌, ◌+◌}
-use lib.ListN.{length, length-set}
+use lib.ListN.{length}
 use lib.Seq.{sets}
 use Rattle.numbers.specs.Numbers.{last_digits, width_of, digits_of}
-use Rattle.numbers.proofs.Writing.{put_two, put_one, put-end, length_digits}
 use Rattle.numbers.proofs.put_number.Given as goal
 
 abbrev pub invariant-loop-k : goal.invariant-loop-k

@@ -2,7 +2,6 @@
 use lib.ListN.{length, length-set}
 use mathlib.Core.Path.{◌∙◌}
 use native.Mathlib.Omega.{arith}
-use borrow.Author.Rules.{rules}
 use Rattle.numbers.proofs.Signs.{neg-room, pos-room, neg-put, pos-put}
 use Rattle.numbers.proofs.put_signed.Goals as goal
 

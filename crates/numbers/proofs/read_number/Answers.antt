@@ -1,9 +1,6 @@
 use native.Mathlib.Omega.{arith}
 use borrow.Author.Rules.{rules}
-use mathlib.Core.Path.{◌≡◌, refl, sym, ◌∙◌}
-use Prim.Native.Nat.{◌≤◌, ◌<◌, ◌-◌, ◌^◌}
-use lib.ListN.{length, drop}
-use Rattle.numbers.specs.Numbers.{most_digits, number_of, digits_from}
+use mathlib.Core.Path.{refl, sym, ◌∙◌}
 use Rattle.numbers.proofs.Reading.{read_none, read-long, read-leading, read-zero, read-digits, read_step, read_low, read-high, read-end, grows, fits}
 use Rattle.numbers.proofs.read_number.Goals as goal
 

@@ -1,12 +1,9 @@
 -- `numbers::read_number` meets its contract. The invariant: x is what the first i digits make, it is below 10^i, and reading on from it
 -- gives what the whole field says.
-use native.Mathlib.Omega.{arith}
-use borrow.Author.Rules.{rules}
-use mathlib.Core.Path.{◌≡◌, refl, sym, ◌∙◌}
+use mathlib.Core.Path.{◌≡◌}
 use Prim.Native.Nat.{◌≤◌, ◌<◌, ◌-◌, ◌^◌}
 use lib.ListN.{length, drop}
 use Rattle.numbers.specs.Numbers.{most_digits, number_of, digits_from}
-use Rattle.numbers.proofs.Reading.{read_none, read-long, read-leading, read-zero, read-digits, read_step, read_low, read-high, read-end, grows, fits}
 use Rattle.numbers.proofs.read_number.Given as goal
 
 abbrev pub invariant-loop-i : goal.invariant-loop-i

@@ -3,7 +3,6 @@ use Prim.Native.Nat.{◌-◌}
 use lib.ListN.{length, take, drop}
 use mathlib.Core.Path.{ap, ◌∙◌}
 use borrow.Author.Tests.{eq-eqb, ne_eqb}
-use borrow.Author.Rules.{rules}
 use Rattle.numbers.specs.Numbers.{from_zero, below_zero, number_of}
 use Rattle.numbers.proofs.Reading.{small_of, rest_all}
 use Rattle.numbers.proofs.Signs.{empty-signed}

@@ -1,8 +1,6 @@
-use borrow.Author.Rules.{rules}
 use native.Mathlib.Omega.{arith}
 use mathlib.Core.Path.{◌≡◌, sym, ◌∙◌}
-use Prim.Native.Nat.{◌-◌}
-use Rattle.numbers.proofs.Writing.{Wide, wide-one, wide-more, wide_fits, wide_is, wide-all}
+use Rattle.numbers.proofs.Writing.{wide-one, wide-more, wide_fits, wide_is, wide-all}
 use Rattle.numbers.proofs.width.Goals as goal
 
 pub loop-n-init : goal.loop-n-init

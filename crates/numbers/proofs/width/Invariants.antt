@@ -1,9 +1,6 @@
 -- `numbers::width` meets its contract. The invariant: x has n digits or more, and power is ten to the power of n.
-use borrow.Author.Rules.{rules}
-use native.Mathlib.Omega.{arith}
-use mathlib.Core.Path.{◌≡◌, sym, ◌∙◌}
 use Prim.Native.Nat.{◌-◌}
-use Rattle.numbers.proofs.Writing.{Wide, wide-one, wide-more, wide_fits, wide_is, wide-all}
+use Rattle.numbers.proofs.Writing.{Wide}
 use Rattle.numbers.proofs.width.Given as goal
 
 abbrev pub invariant-loop-n : goal.invariant-loop-n

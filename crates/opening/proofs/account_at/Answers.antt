@@ -1,5 +1,4 @@
 -- `opening::account_at` meets its contract: no loop; each test gives one part of `account_opened`.
-use borrow.Author.Rules.{rules}
 use borrow.Author.Tests.{lt-ltb, le-ltb, lt-leb, le-leb}
 use Prim.Native.Nat.{◌-◌}
 use native.Mathlib.Omega.{arith}

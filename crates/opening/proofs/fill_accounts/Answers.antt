@@ -1,10 +1,6 @@
-use borrow.Author.Rules.{rules}
-use Prim.Native.Nat.{◌-◌}
 use native.Mathlib.Omega.{arith}
 use Rattle.rule.proofs.Ints.{plain}
-use Rattle.tables.specs.Sizes.{table}
-use Rattle.tables.proofs.Filling.{Filled, fill_start, fill-same, fill_more, fill_end}
-use Rattle.opening.specs.Open.{account_opened}
+use Rattle.tables.proofs.Filling.{fill_start, fill-same, fill_more, fill_end}
 use Rattle.opening.proofs.fill_accounts.Goals as goal
 
 pub loop-k-init : goal.loop-k-init

@@ -1,10 +1,7 @@
 -- `opening::fill_accounts` meets its contract. The loop's invariant: the first k places hold what is opened there.
-use borrow.Author.Rules.{rules}
 use Prim.Native.Nat.{◌-◌}
-use native.Mathlib.Omega.{arith}
-use Rattle.rule.proofs.Ints.{plain}
 use Rattle.tables.specs.Sizes.{table}
-use Rattle.tables.proofs.Filling.{Filled, fill_start, fill-same, fill_more, fill_end}
+use Rattle.tables.proofs.Filling.{Filled}
 use Rattle.opening.specs.Open.{account_opened}
 use Rattle.opening.proofs.fill_accounts.Given as goal
 

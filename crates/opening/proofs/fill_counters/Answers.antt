@@ -1,11 +1,6 @@
-use borrow.Author.Rules.{rules}
 use borrow.Author.Tests.{eq-eqb, ne_eqb}
-use mathlib.Core.Logic.{⊎_elim}
-use Prim.Native.Nat.{◌-◌}
 use native.Mathlib.Omega.{arith}
-use Rattle.tables.specs.Sizes.{table}
-use Rattle.tables.proofs.Filling.{Filled, fill_start, fill-same, fill_more, fill_end}
-use Rattle.opening.specs.Open.{counter_opened}
+use Rattle.tables.proofs.Filling.{fill_start, fill-same, fill_more, fill_end}
 use Rattle.opening.proofs.fill_counters.Goals as goal
 use Rattle.opening.proofs.fill_counters.Goals.{else-k-eq0, then-k-eq0}
 

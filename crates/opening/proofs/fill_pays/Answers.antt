@@ -1,9 +1,6 @@
-use borrow.Author.Rules.{rules}
 use mathlib.Core.Path.{refl}
-use Prim.Native.Nat.{◌-◌}
 use native.Mathlib.Omega.{arith}
-use Rattle.tables.specs.Sizes.{places}
-use Rattle.tables.proofs.Filling.{Filled, fill_start, fill-same, fill_more, fill_end}
+use Rattle.tables.proofs.Filling.{fill_start, fill-same, fill_more, fill_end}
 use Rattle.opening.proofs.fill_pays.Goals as goal
 
 pub loop-k-init : goal.loop-k-init

@@ -1,10 +1,7 @@
 -- `opening::fill_pays` meets its contract. The loop's invariant: the first k places are 0.
-use borrow.Author.Rules.{rules}
-use mathlib.Core.Path.{refl}
 use Prim.Native.Nat.{◌-◌}
-use native.Mathlib.Omega.{arith}
 use Rattle.tables.specs.Sizes.{places}
-use Rattle.tables.proofs.Filling.{Filled, fill_start, fill-same, fill_more, fill_end}
+use Rattle.tables.proofs.Filling.{Filled}
 use Rattle.opening.proofs.fill_pays.Given as goal
 
 abbrev pub invariant-loop-k : goal.invariant-loop-k

@@ -1,10 +1,7 @@
-use borrow.Author.Rules.{rules}
 use mathlib.Core.Path.{◌≡◌}
-use Prim.Native.Nat.{◌-◌}
 use native.Mathlib.Omega.{arith}
-use lib.ListN.{length}
 use Rattle.rule.proofs.Ints.{plain}
-use Rattle.tables.proofs.Every.{Passed, every-start, every_more, every-fail, every-end}
+use Rattle.tables.proofs.Every.{every-start, every_more, every-fail, every-end}
 use Rattle.tables.proofs.Tests.{flag-no, flag-yes}
 use Rattle.opening.specs.Open.{opens_at}
 use Rattle.opening.proofs.holders_ok.Goals as goal

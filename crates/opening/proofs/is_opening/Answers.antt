@@ -1,5 +1,4 @@
 -- `opening::is_opening` meets its contract: no loop; each test that was passed gives one part of `is_opening`, and members in order have a sum that fits an i64.
-use borrow.Author.Rules.{rules}
 use borrow.Author.Tests.{lt-leb, le-leb, eq-eqb, ne_eqb}
 use mathlib.Core.Bool.{◌&&◌}
 use mathlib.Core.Path.{◌≡◌}

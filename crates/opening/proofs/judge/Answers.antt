@@ -1,5 +1,4 @@
 -- `opening::judge` meets its contract: no loop; each test that was passed gives one part of the judgement.
-use borrow.Author.Rules.{rules}
 use borrow.Author.Tests.{lt-leb, le-leb}
 use mathlib.Core.Bool.{true}
 use mathlib.Core.Path.{◌≡◌}

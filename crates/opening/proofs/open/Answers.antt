@@ -1,5 +1,4 @@
 -- `opening::open` meets its contract: no loop; a judgement that found nothing gives what filling the tables and the sum ask.
-use borrow.Author.Rules.{rules}
 use mathlib.Core.Path.{◌≡◌, sym, ap₂, ◌∙◌}
 use native.Mathlib.Omega.{arith}
 use Rattle.rule.proofs.Ints.{plain}

@@ -1,6 +1,5 @@
 -- `resolving::resolve` meets its contract: no loop; the counts of the largest set can be booked with the positions found, and what is booked
 -- and told is what is promised.
-use borrow.Author.Rules.{rules}
 use borrow.Author.Tests.{eq-eqb, ne_eqb}
 use mathlib.Core.Path.{◌≡◌, sym, ap, ◌∙◌, subst}
 use Prim.Native.Nat.{◌≤◌}

@@ -1,10 +1,8 @@
-use borrow.Author.Rules.{rules}
 use borrow.Author.Tests.{lt-ltb, le-ltb}
 use Prim.Native.Nat.{◌-◌}
 use native.Mathlib.Omega.{arith}
-use Rattle.sets.proofs.Highest.{Read, read-start, read-room, read-in, read_out, read-end}
-use Rattle.tables.specs.Layout.{count_of, last_of, settled_of}
-use Rattle.resolving.specs.Resolve.{has_waiting}
+use Rattle.sets.proofs.Highest.{read-start, read-room, read-in, read_out, read-end}
+use Rattle.tables.specs.Layout.{last_of, settled_of}
 use Rattle.resolving.proofs.still_waiting.Goals as goal
 
 pub loop-i-init : goal.loop-i-init

@@ -1,10 +1,6 @@
 -- `resolving::still_waiting` meets its contract. The loop's invariant: the number holds the members from i on, so that it can be doubled.
-use borrow.Author.Rules.{rules}
-use borrow.Author.Tests.{lt-ltb, le-ltb}
-use Prim.Native.Nat.{◌-◌}
-use native.Mathlib.Omega.{arith}
-use Rattle.sets.proofs.Highest.{Read, read-start, read-room, read-in, read_out, read-end}
-use Rattle.tables.specs.Layout.{count_of, last_of, settled_of}
+use Rattle.sets.proofs.Highest.{Read}
+use Rattle.tables.specs.Layout.{count_of}
 use Rattle.resolving.specs.Resolve.{has_waiting}
 use Rattle.resolving.proofs.still_waiting.Given as goal
 

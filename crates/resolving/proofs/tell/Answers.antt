@@ -1,10 +1,6 @@
-use borrow.Author.Rules.{rules}
 use mathlib.Core.Path.{refl, ◌∙◌}
-use Prim.Native.Nat.{◌-◌}
 use native.Mathlib.Omega.{arith}
-use lib.ListN.{length}
-use Rattle.tables.proofs.Filling.{Filled, fill_start, fill-same, fill_more, fill_end}
-use Rattle.booking.specs.Booking.{listed}
+use Rattle.tables.proofs.Filling.{fill_start, fill-same, fill_more, fill_end}
 use Rattle.resolving.proofs.Resolving.{fill-take}
 use Rattle.resolving.proofs.tell.Goals as goal
 

@@ -1,10 +1,6 @@
-use Rattle.session.proofs.Desks.{fit_at, Going, going-first, going_next, closes-at}
-use Rattle.session.specs.Turns.{close_turn, closes_on}
-use Rattle.desk.specs.States.{desk_of, turns_left}
-use Rattle.tables.specs.Layout.{tables}
-use lib.ListN.{length}
+use Rattle.session.proofs.Desks.{fit_at, going-first, going_next, closes-at}
 use mathlib.Core.List.{[]}
-use mathlib.Core.Path.{◌≡◌, refl, sym, ◌∙◌}
+use mathlib.Core.Path.{refl, sym, ◌∙◌}
 use native.Mathlib.Omega.{arith}
 use Rattle.session.proofs.close.Goals as goal
 

@@ -1,12 +1,11 @@
 -- `session::close` meets its contract. The invariant: turns led here, and before each of them it went on.
-use Rattle.session.proofs.Desks.{fit_at, Going, going-first, going_next, closes-at}
+use Rattle.session.proofs.Desks.{Going}
 use Rattle.session.specs.Turns.{close_turn, closes_on}
 use Rattle.desk.specs.States.{desk_of, turns_left}
 use Rattle.tables.specs.Layout.{tables}
 use lib.ListN.{length}
 use mathlib.Core.List.{[]}
-use mathlib.Core.Path.{◌≡◌, refl, sym, ◌∙◌}
-use native.Mathlib.Omega.{arith}
+use mathlib.Core.Path.{◌≡◌}
 use Rattle.session.proofs.close.Given as goal
 
 abbrev pub invariant-loop-counts : goal.invariant-loop-counts

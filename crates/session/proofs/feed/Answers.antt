@@ -1,10 +1,5 @@
-use Rattle.session.proofs.Desks.{fit_at, Going, going-first, going_next, goes-at}
-use Rattle.session.specs.Turns.{turn_of, goes_on}
-use Rattle.desk.specs.States.{desk_of, turns_left}
-use Rattle.tables.specs.Layout.{tables}
-use lib.ListN.{length, drop}
-use Prim.Native.Nat.{◌-◌, ◌≤◌}
-use mathlib.Core.Path.{◌≡◌, refl, sym, ◌∙◌}
+use Rattle.session.proofs.Desks.{fit_at, going-first, going_next, goes-at}
+use mathlib.Core.Path.{refl, sym, ◌∙◌}
 use native.Mathlib.Omega.{arith}
 use Rattle.session.proofs.feed.Goals as goal
 

@@ -1,13 +1,10 @@
-use borrow.Author.Rules.{rules}
 use borrow.Author.Tests.{le-leb, lt-leb}
-use mathlib.Core.Path.{◌≡◌, sym, ◌∙◌}
-use Prim.Native.Nat.{◌-◌, ◌<◌}
+use mathlib.Core.Path.{sym, ◌∙◌}
+use Prim.Native.Nat.{◌<◌}
 use native.Mathlib.Omega.{arith}
-use lib.Dec.{leb}
-use lib.ListN.{length}
 use Rattle.tables.specs.Sizes.{members}
-use Rattle.tables.specs.Layout.{count_of, waits_of}
-use Rattle.tables.proofs.Every.{Passed, every-start, every_more, every-fail, every-end}
+use Rattle.tables.specs.Layout.{waits_of}
+use Rattle.tables.proofs.Every.{every-start, every_more, every-fail, every-end}
 use Rattle.booking.specs.Booking.{listed}
 use Rattle.settling.proofs.Counts.{fit-not, fit_is}
 use Rattle.settling.proofs.are_counts.Goals as goal

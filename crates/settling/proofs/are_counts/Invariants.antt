@@ -1,16 +1,11 @@
 -- `settling::are_counts` meets its contract. The loop's invariant: no count before i is above what waits.
-use borrow.Author.Rules.{rules}
-use borrow.Author.Tests.{le-leb, lt-leb}
-use mathlib.Core.Path.{◌≡◌, sym, ◌∙◌}
-use Prim.Native.Nat.{◌-◌, ◌<◌}
-use native.Mathlib.Omega.{arith}
+use mathlib.Core.Path.{◌≡◌}
+use Prim.Native.Nat.{◌-◌}
 use lib.Dec.{leb}
 use lib.ListN.{length}
-use Rattle.tables.specs.Sizes.{members}
 use Rattle.tables.specs.Layout.{count_of, waits_of}
-use Rattle.tables.proofs.Every.{Passed, every-start, every_more, every-fail, every-end}
+use Rattle.tables.proofs.Every.{Passed}
 use Rattle.booking.specs.Booking.{listed}
-use Rattle.settling.proofs.Counts.{fit-not, fit_is}
 use Rattle.settling.proofs.are_counts.Given as goal
 
 abbrev pub invariant-loop-i : goal.invariant-loop-i

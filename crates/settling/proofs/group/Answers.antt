@@ -1,5 +1,4 @@
 -- `settling::group` meets its contract: no loop; the counts, widened to all seats, are tried.
-use borrow.Author.Rules.{rules}
 use mathlib.Core.Path.{◌≡◌, sym, ap, ◌∙◌}
 use mathlib.Core.Bool.{true}
 use native.Mathlib.Omega.{arith}

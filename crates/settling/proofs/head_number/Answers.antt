@@ -1,5 +1,4 @@
 -- `settling::head_number` meets its contract: no loop; a counter is below 2^32.
-use borrow.Author.Rules.{rules}
 use Prim.Native.Nat.{◌+◌}
 use native.Mathlib.Omega.{arith}
 use Rattle.tables.specs.Layout.{settled_at}

@@ -1,5 +1,4 @@
 -- `settling::reaches` meets its contract: no loop; the sum is in the range of an i64.
-use borrow.Author.Rules.{rules}
 use mathlib.Core.Path.{◌≡◌, ap₂, ◌∙◌}
 use lib.IntN.{pos, ◌+ℤ◌}
 use lib.Signed.{le_z}

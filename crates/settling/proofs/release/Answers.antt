@@ -1,5 +1,4 @@
 -- `settling::release` meets its contract: no loop; the head is found, and booked if balance + line reach its amount.
-use borrow.Author.Rules.{rules}
 use mathlib.Core.Path.{sym, ◌∙◌}
 use mathlib.Core.Logic.{◌≢◌}
 use Prim.Native.Nat.{◌-◌, ◌≤◌, ◌<◌}

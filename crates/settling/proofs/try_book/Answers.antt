@@ -1,5 +1,4 @@
 -- `settling::try_book` meets its contract: no loop; the test of the positions is the rule's, of each member.
-use borrow.Author.Rules.{rules}
 use mathlib.Core.Path.{sym, ap₂, ◌∙◌}
 use Rattle.tables.specs.Layout.{Tables, tables}
 use Rattle.tables.proofs.Tests.{flag-no, flag-yes}

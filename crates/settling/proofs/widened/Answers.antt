@@ -1,8 +1,5 @@
-use borrow.Author.Rules.{rules}
-use Prim.Native.Nat.{◌-◌}
 use native.Mathlib.Omega.{arith}
-use lib.ListN.{length}
-use Rattle.settling.proofs.Counts.{Widening, widen-start, widen-turn, widen-end}
+use Rattle.settling.proofs.Counts.{widen-start, widen-turn, widen-end}
 use Rattle.settling.proofs.widened.Goals as goal
 
 pub loop-i-init : goal.loop-i-init

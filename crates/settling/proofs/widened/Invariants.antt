@@ -1,9 +1,7 @@
 -- `settling::widened` meets its contract. The loop's invariant: the counts before i are copied, and 0 stands behind them.
-use borrow.Author.Rules.{rules}
 use Prim.Native.Nat.{◌-◌}
-use native.Mathlib.Omega.{arith}
 use lib.ListN.{length}
-use Rattle.settling.proofs.Counts.{Widening, widen-start, widen-turn, widen-end}
+use Rattle.settling.proofs.Counts.{Widening}
 use Rattle.settling.proofs.widened.Given as goal
 
 abbrev pub invariant-loop-i : goal.invariant-loop-i

@@ -1,6 +1,5 @@
 -- `sheet::has_room` meets its contract: no loop.
 use Rattle.sheet.proofs.Room.{room_at}
-use borrow.Author.Rules.{rules}
 use Rattle.sheet.proofs.has_room.Goals as goal
 
 pub returns : goal.returns

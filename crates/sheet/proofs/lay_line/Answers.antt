@@ -1,7 +1,6 @@
 -- `sheet::lay_line` meets its contract. The row of the line is written.
 use lib.Seq.{length-take-le}
 use mathlib.Core.Path.{sym}
-use borrow.Author.Rules.{rules}
 use Rattle.sheet.proofs.Room.{row_room, row_put}
 use Rattle.sheet.proofs.lay_line.Goals as goal
 

@@ -1,13 +1,9 @@
 -- `sheet::put_bytes` meets its contract. The invariant: the rest of the text from i on, written behind its place into what is there now,
 -- gives the whole text written into what was there at first.
 use lib.Seq.{sets}
-use lib.ListN.{length, drop, length-set}
+use lib.ListN.{length, drop}
 use Prim.Native.Nat.{◌+◌, ◌-◌, ◌≤◌}
-use mathlib.Core.Path.{◌≡◌, refl, sym, ◌∙◌}
-use native.Mathlib.Nat.{add-zero}
-use native.Mathlib.Omega.{arith}
-use borrow.Author.Rules.{rules}
-use Rattle.sheet.proofs.Texts.{copy_step, copy-end}
+use mathlib.Core.Path.{◌≡◌}
 use Rattle.sheet.proofs.put_bytes.Given as goal
 
 abbrev pub invariant-loop-i : goal.invariant-loop-i

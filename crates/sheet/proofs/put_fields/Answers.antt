@@ -1,9 +1,8 @@
 use native.Mathlib.Omega.{arith}
-use mathlib.Core.Path.{◌≡◌, refl, sym, ap, ◌∙◌}
-use Prim.Native.Nat.{◌+◌, ◌-◌, ◌≤◌}
+use mathlib.Core.Path.{refl, sym, ap, ◌∙◌}
+use Prim.Native.Nat.{◌+◌, ◌≤◌}
 use lib.ListN.{length, drop}
 use lib.Seq.{sets}
-use borrow.Author.Rules.{rules}
 use Rattle.sheet.specs.Lines.{tabbed}
 use Rattle.sheet.proofs.Fields.{tab-end, tab-length, next-room, next_place, next-put}
 use Rattle.sheet.proofs.put_fields.Goals as goal

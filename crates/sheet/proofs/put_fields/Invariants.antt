@@ -1,13 +1,10 @@
 -- `sheet::put_fields` meets its contract. The invariant: the numbers that are left, written from p on into what is there now, give all of
 -- them written into what was there at first.
-use native.Mathlib.Omega.{arith}
-use mathlib.Core.Path.{◌≡◌, refl, sym, ap, ◌∙◌}
+use mathlib.Core.Path.{◌≡◌}
 use Prim.Native.Nat.{◌+◌, ◌-◌, ◌≤◌}
 use lib.ListN.{length, drop}
 use lib.Seq.{sets}
-use borrow.Author.Rules.{rules}
 use Rattle.sheet.specs.Lines.{tabbed}
-use Rattle.sheet.proofs.Fields.{tab-end, tab-length, next-room, next_place, next-put}
 use Rattle.sheet.proofs.put_fields.Given as goal
 
 abbrev pub invariant-loop-i : goal.invariant-loop-i

@@ -2,7 +2,6 @@
 use mathlib.Core.Path.{ap}
 use Prim.Native.Nat.{ℕ, ◌+◌}
 use native.Mathlib.Omega.{arith}
-use borrow.Author.Rules.{rules}
 use Rattle.sheet.specs.Lines.{text_of}
 use Rattle.sheet.proofs.Room.{rest_put, rest-room, wrote-within}
 use Rattle.sheet.proofs.put_line.Goals as goal

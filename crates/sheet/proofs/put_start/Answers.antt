@@ -1,7 +1,6 @@
 -- `sheet::put_start` meets its contract. The tab stands behind the number.
 use native.Mathlib.Omega.{arith}
 use lib.ListN.{length}
-use borrow.Author.Rules.{rules}
 use Rattle.sheet.proofs.Start.{shown-room, shown-put}
 use Rattle.sheet.proofs.put_start.Goals as goal
 

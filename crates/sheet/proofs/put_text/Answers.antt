@@ -1,6 +1,5 @@
 -- `sheet::put_text` meets its contract. The parts stand one behind the other.
 use native.Mathlib.Omega.{arith}
-use borrow.Author.Rules.{rules}
 use Rattle.sheet.specs.Lines.{shown_if}
 use Rattle.sheet.proofs.Room.{line-length, text-put}
 use Rattle.sheet.proofs.put_text.Goals as goal

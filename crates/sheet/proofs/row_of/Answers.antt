@@ -2,7 +2,6 @@
 use native.Mathlib.Omega.{arith}
 use mathlib.Core.Path.{refl}
 use lib.IntN.{pos}
-use borrow.Author.Rules.{rules}
 use Rattle.sheet.proofs.Ranges.{in-range, handed-on}
 use Rattle.sheet.proofs.row_of.Goals as goal
 

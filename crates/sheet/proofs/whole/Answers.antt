@@ -3,7 +3,6 @@ use Prim.Native.Nat.{◌<◌, ◌^◌}
 use native.Mathlib.Omega.{arith}
 use mir.Syntax.{w64}
 use mir.Facts.{to_z_pos}
-use borrow.Author.Rules.{rules}
 use Rattle.sheet.proofs.whole.Goals as goal
 
 pub returns : goal.returns

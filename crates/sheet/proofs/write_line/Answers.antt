@@ -1,8 +1,6 @@
 -- `sheet::write_line` meets its contract. The room is judged first, and then the line is written.
 use mathlib.Core.Path.{sym, ◌∙◌}
 use native.Mathlib.Omega.{arith}
-use borrow.Author.Rules.{rules}
-use borrow.Author.Tests.{not-true, not-false}
 use Rattle.sheet.specs.Lines.{text_of}
 use Rattle.sheet.proofs.Room.{room-is, full_put, room-put}
 use Rattle.sheet.proofs.write_line.Goals as goal

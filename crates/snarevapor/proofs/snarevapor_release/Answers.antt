@@ -6,7 +6,6 @@ use Rattle.settling.specs.Release.{release_act}
 use Rattle.lent.specs.Reply.{lends}
 use Rattle.lent.specs.Asks.{told_released}
 use Rattle.lent.proofs.Replies.{lent-room, reply-long, reply-short}
-use borrow.Author.Rules.{rules}
 use Rattle.snarevapor.proofs.snarevapor_release.Goals as goal
 
 pub returns-then-not-is_roomy : goal.returns-then-not-is_roomy

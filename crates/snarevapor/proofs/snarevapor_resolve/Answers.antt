@@ -12,7 +12,6 @@ use Rattle.lent.specs.Bytes.{roomy, counts_in}
 use Rattle.lent.specs.Reply.{lends}
 use Rattle.lent.specs.Asks.{told_resolved}
 use Rattle.lent.proofs.Replies.{lent-room, reply-long, reply-short}
-use borrow.Author.Rules.{rules}
 use Rattle.snarevapor.proofs.snarevapor_resolve.Goals as goal
 
 pub returns-then-not-is_roomy : goal.returns-then-not-is_roomy

@@ -6,7 +6,6 @@ use Rattle.entry.specs.Submit.{submit_act}
 use Rattle.lent.specs.Reply.{lends}
 use Rattle.lent.specs.Asks.{told_submitted}
 use Rattle.lent.proofs.Replies.{lent-room, reply-long, reply-short}
-use borrow.Author.Rules.{rules}
 use Rattle.snarevapor.proofs.snarevapor_submit.Goals as goal
 
 pub returns-then-not-is_roomy : goal.returns-then-not-is_roomy

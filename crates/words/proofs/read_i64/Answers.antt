@@ -1,5 +1,4 @@
 -- `words::read_i64` meets its contract: the signed number is that of the 8 bytes read.
-use borrow.Author.Rules.{rules}
 use mathlib.Core.Path.{ap, ◌∙◌}
 use mir.Syntax.{w64}
 use mir.Val.{to_z}

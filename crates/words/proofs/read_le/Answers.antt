@@ -1,7 +1,6 @@
-use borrow.Author.Rules.{rules}
 use native.Mathlib.Omega.{arith}
 use Prim.Native.Nat.{◌+◌, ◌-◌}
-use Rattle.words.proofs.NumberTurns.{Reading, read-start, read-turn, read-room, read-end}
+use Rattle.words.proofs.NumberTurns.{read-start, read-turn, read-room, read-end}
 use Rattle.words.proofs.read_le.Goals as goal
 
 pub overflow_mul-x : goal.overflow_mul-x

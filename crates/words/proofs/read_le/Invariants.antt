@@ -1,8 +1,5 @@
 -- `words::read_le` meets its contract. The loop's invariant: x is the number in the bytes from k on. The measure is how many bytes are left.
-use borrow.Author.Rules.{rules}
-use native.Mathlib.Omega.{arith}
-use Prim.Native.Nat.{◌+◌, ◌-◌}
-use Rattle.words.proofs.NumberTurns.{Reading, read-start, read-turn, read-room, read-end}
+use Rattle.words.proofs.NumberTurns.{Reading}
 use Rattle.words.proofs.read_le.Given as goal
 
 abbrev pub invariant-loop-k : goal.invariant-loop-k

@@ -1,5 +1,4 @@
 -- `words::signed` meets its contract: below 2^63 a number stands for itself, and from there on the complement of its complement is the number again.
-use borrow.Author.Rules.{rules}
 use native.Mathlib.Omega.{arith}
 use mathlib.Core.Path.{◌≡◌, ap}
 use Prim.Native.Nat.{◌-◌, ◌^◌}

@@ -1,5 +1,4 @@
 -- `words::write_i64` meets its contract: the 8 bytes written are those of the number that stands for z.
-use borrow.Author.Rules.{rules}
 use mathlib.Core.Path.{ap, ◌∙◌}
 use mir.Syntax.{w64}
 use mir.Val.{of_z}

@@ -1,6 +1,5 @@
 use native.Mathlib.Omega.{arith}
-use Prim.Native.Nat.{◌-◌}
-use Rattle.words.proofs.NumberTurns.{Putting, put-start, put-turn, put-end}
+use Rattle.words.proofs.NumberTurns.{put-start, put-turn, put-end}
 use Rattle.words.proofs.write_le.Goals as goal
 
 pub loop-k-init : goal.loop-k-init

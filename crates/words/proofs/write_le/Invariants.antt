@@ -1,7 +1,6 @@
 -- `words::write_le` meets its contract. The loop's invariant: with y written into the bytes from k on, all is as it is to be. The measure is how many bytes are left.
-use native.Mathlib.Omega.{arith}
 use Prim.Native.Nat.{◌-◌}
-use Rattle.words.proofs.NumberTurns.{Putting, put-start, put-turn, put-end}
+use Rattle.words.proofs.NumberTurns.{Putting}
 use Rattle.words.proofs.write_le.Given as goal
 
 abbrev pub invariant-loop-k : goal.invariant-loop-k

@@ -1,5 +1,4 @@
 -- `answers::judge::is_member` meets its contract: no loop; each test gives one part of `is_member`.
-use borrow.Author.Rules.{rules}
 use borrow.Author.Tests.{lt-leb, le-leb}
 use mathlib.Core.Path.{◌≡◌}
 use native.Mathlib.Omega.{arith}

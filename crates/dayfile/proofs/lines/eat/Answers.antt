@@ -1,12 +1,10 @@
 use mathlib.Core.Bool.{true, false}
-use lib.ListN.{length, drop}
-use Prim.Native.Nat.{◌-◌, ◌≤◌, ◌+◌}
-use mathlib.Core.Path.{◌≡◌, refl, sym, ap, ◌∙◌}
+use lib.ListN.{drop}
+use Prim.Native.Nat.{◌+◌}
+use mathlib.Core.Path.{refl, sym, ap, ◌∙◌}
 use native.Mathlib.Omega.{arith}
-use borrow.Author.Rules.{rules}
-use Rattle.dayfile.proofs.Eating.{Going, going_on, eat-here, eat-on, eat-none, ready_at}
+use Rattle.dayfile.proofs.Eating.{going_on, eat-here, eat-on, eat-none, ready_at}
 use Rattle.dayfile.specs.Chunks.{eat_of, state_of, Held, more}
-use Rattle.dayfile.specs.Lines.{most_bytes}
 use Rattle.dayfile.proofs.lines.eat.Goals as goal
 
 pub loop-i-init : goal.loop-i-init

@@ -1,13 +1,10 @@
 -- `dayfile::lines::eat` meets its contract. The invariant: what eating finds from i on, with what is held there, is what it finds from the first
 -- place on.
-use mathlib.Core.Bool.{true, false}
 use lib.ListN.{length, drop}
-use Prim.Native.Nat.{◌-◌, ◌≤◌, ◌+◌}
-use mathlib.Core.Path.{◌≡◌, refl, sym, ap, ◌∙◌}
-use native.Mathlib.Omega.{arith}
-use borrow.Author.Rules.{rules}
-use Rattle.dayfile.proofs.Eating.{Going, going_on, eat-here, eat-on, eat-none, ready_at}
-use Rattle.dayfile.specs.Chunks.{eat_of, state_of, Held, more}
+use Prim.Native.Nat.{◌-◌, ◌≤◌}
+use mathlib.Core.Path.{◌≡◌}
+use Rattle.dayfile.proofs.Eating.{Going}
+use Rattle.dayfile.specs.Chunks.{eat_of, state_of}
 use Rattle.dayfile.specs.Lines.{most_bytes}
 use Rattle.dayfile.proofs.lines.eat.Given as goal
 

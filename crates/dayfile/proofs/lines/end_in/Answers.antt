@@ -1,8 +1,5 @@
-use borrow.Author.Rules.{rules}
-use Prim.Native.Nat.{◌≤◌, ◌-◌}
 use native.Mathlib.Omega.{arith}
-use lib.ListN.{length}
-use Rattle.dayfile.proofs.Eating.{NoEnd, no-end-yet, no-end-one}
+use Rattle.dayfile.proofs.Eating.{no-end-yet, no-end-one}
 use Rattle.dayfile.proofs.lines.end_in.Goals as goal
 
 pub loop-i-init : goal.loop-i-init

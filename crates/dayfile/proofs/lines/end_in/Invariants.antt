@@ -1,9 +1,7 @@
 -- `dayfile::lines::end_in` meets its contract. The invariant: no byte before place i is an end.
-use borrow.Author.Rules.{rules}
 use Prim.Native.Nat.{◌≤◌, ◌-◌}
-use native.Mathlib.Omega.{arith}
 use lib.ListN.{length}
-use Rattle.dayfile.proofs.Eating.{NoEnd, no-end-yet, no-end-one}
+use Rattle.dayfile.proofs.Eating.{NoEnd}
 use Rattle.dayfile.proofs.lines.end_in.Given as goal
 
 abbrev pub invariant-loop-i : goal.invariant-loop-i

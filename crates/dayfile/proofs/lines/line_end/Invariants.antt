@@ -1,11 +1,7 @@
 -- `dayfile::lines::line_end` meets its contract. The invariant: no byte before place i is an end.
-use borrow.Author.Rules.{rules}
-use mathlib.Core.Path.{◌≡◌, subst}
-use Prim.Native.Nat.{◌+◌, ◌≤◌, ◌-◌}
-use native.Mathlib.Omega.{arith}
+use Prim.Native.Nat.{◌≤◌, ◌-◌}
 use lib.ListN.{length}
-use Rattle.dayfile.specs.Chunks.{stride}
-use Rattle.dayfile.proofs.Eating.{NoEnd, no-end-yet, end-within, no-end-part, end-found}
+use Rattle.dayfile.proofs.Eating.{NoEnd}
 use Rattle.dayfile.proofs.lines.line_end.Given as goal
 
 abbrev pub invariant-loop-i : goal.invariant-loop-i

@@ -1,6 +1,5 @@
 -- `dayfile::lines::push` meets its contract. One byte more stands in the buffer, or the line is long.
 use native.Mathlib.Omega.{arith}
-use borrow.Author.Rules.{rules}
 use Rattle.dayfile.proofs.Eating.{push-room, push-full}
 use Rattle.dayfile.proofs.lines.push.Goals as goal
 

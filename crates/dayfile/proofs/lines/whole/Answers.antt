@@ -1,5 +1,4 @@
 -- `dayfile::lines::whole` meets its contract: no loop; a line that ends in the chunk behind at most 400 bytes is eaten as it stands there.
-use borrow.Author.Rules.{rules}
 use native.Mathlib.Omega.{arith}
 use Prim.Native.Nat.{◌≤◌}
 use Rattle.dayfile.specs.Lines.{most_bytes}

@@ -1,5 +1,4 @@
 -- `desk::chunks::eat_on` meets its contract: no loop; a line that stands in the chunk as a whole is read there.
-use borrow.Author.Rules.{rules}
 use mathlib.Core.Path.{ap, ◌∙◌}
 use Prim.Native.Nat.{◌+◌, ◌-◌}
 use native.Mathlib.Omega.{arith}

@@ -1,5 +1,4 @@
 -- `desk::chunks::part_on` meets its contract: no loop; the line goes by way of the buffer.
-use borrow.Author.Rules.{rules}
 use mathlib.Core.Path.{sym, ap, ◌∙◌}
 use native.Mathlib.Omega.{arith}
 use lib.ListN.{drop}

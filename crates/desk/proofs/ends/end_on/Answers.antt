@@ -9,7 +9,6 @@ use Rattle.night.proofs.Kept.{end-ranges}
 use Rattle.tables.specs.Layout.{Tables, tables}
 use native.Mathlib.Omega.{arith}
 use mathlib.Core.Path.{refl}
-use borrow.Author.Rules.{rules}
 use Rattle.desk.proofs.ends.end_on.Goals as goal
 
 pub end_line-l-requires : goal.end_line-l-requires

@@ -6,7 +6,6 @@ use Rattle.dayfile.specs.Lines.{Line}
 use Rattle.dayfile.specs.Chunks.{held_line, state_of}
 use lib.ListN.{length}
 use mathlib.Core.Path.{ap}
-use borrow.Author.Rules.{rules}
 use native.Mathlib.Omega.{arith}
 use Rattle.desk.proofs.lines.line_on.Goals as goal
 

@@ -1,7 +1,6 @@
 -- `desk::lines::read` meets its contract: no loop.
 use lib.ListN.{length-take}
 use native.Mathlib.Omega.{arith}
-use borrow.Author.Rules.{rules}
 use Rattle.desk.proofs.lines.read.Goals as goal
 
 pub slice_bounds-read_line-end : goal.slice_bounds-read_line-end

@@ -6,7 +6,6 @@ use Rattle.sheet.specs.declared.Says.{Says}
 use Rattle.sheet.specs.Room.{Ranges}
 use Rattle.daylines.specs.Calls.{refusal}
 use Rattle.desk.proofs.Writing.{put-behind}
-use borrow.Author.Rules.{rules}
 use Rattle.desk.proofs.lines.stop.Goals as goal
 
 pub returns : goal.returns

@@ -5,7 +5,6 @@ use Rattle.tables.specs.Layout.{Tables, tables}
 use native.Mathlib.Omega.{arith}
 use Prim.Native.Nat.{◌+◌}
 use mathlib.Core.Path.{refl}
-use borrow.Author.Rules.{rules}
 use Rattle.desk.proofs.lines.take_line.Goals as goal
 
 pub tell-used-requires : goal.tell-used-requires

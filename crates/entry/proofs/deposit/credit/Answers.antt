@@ -1,5 +1,4 @@
 -- `entry::deposit::credit` meets its contract: no loop; a balance near zero with an amount more fits an i64.
-use borrow.Author.Rules.{rules}
 use mathlib.Core.Path.{◌≡◌, ap}
 use native.Mathlib.Omega.{arith}
 use lib.IntN.{pos, ◌+ℤ◌}

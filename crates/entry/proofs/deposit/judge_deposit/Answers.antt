@@ -1,6 +1,5 @@
 -- `entry::deposit::judge_deposit` meets its contract: no loop; each test that was passed gives one part of the judgement, and the sum of
 -- a state with an amount more fits an i64.
-use borrow.Author.Rules.{rules}
 use mathlib.Core.Bool.{true}
 use mathlib.Core.Path.{◌≡◌}
 use native.Mathlib.Omega.{arith}

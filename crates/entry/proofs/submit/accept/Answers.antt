@@ -1,5 +1,4 @@
 -- `entry::submit::accept` meets its contract: no loop; the second store asks that the first kept the length.
-use borrow.Author.Rules.{rules}
 use native.Mathlib.Omega.{arith}
 use lib.ListN.{length-set}
 use Rattle.entry.proofs.submit.accept.Goals as goal

@@ -1,5 +1,4 @@
 -- `entry::submit::is_next` meets its contract: no loop; what is read is the payer's last number, and each test gives one part of `is_next`.
-use borrow.Author.Rules.{rules}
 use borrow.Author.Tests.{eq-eqb, ne_eqb}
 use mathlib.Core.Bool.{true, false}
 use mathlib.Core.Path.{◌≡◌}

@@ -1,5 +1,4 @@
 -- `entry::submit::judge_submit` meets its contract: no loop; each test that was passed gives one part of the judgement.
-use borrow.Author.Rules.{rules}
 use borrow.Author.Tests.{lt-leb, le-leb, eq-eqb, ne_eqb}
 use mathlib.Core.Bool.{true, false, cond}
 use mathlib.Core.Path.{◌≡◌}

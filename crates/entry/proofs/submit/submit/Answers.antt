@@ -1,5 +1,4 @@
 -- `entry::submit::submit` meets its contract: no loop; a judgement that found nothing gives what the three steps ask.
-use borrow.Author.Rules.{rules}
 use mathlib.Core.Path.{◌≡◌, sym, ap₂, ◌∙◌}
 use mathlib.Core.List.{List}
 use Prim.Native.Nat.{ℕ, ◌-◌}

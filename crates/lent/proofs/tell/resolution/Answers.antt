@@ -1,5 +1,4 @@
 -- `lent::tell::resolution` meets its contract: no loop; six parts, one behind the other.
-use borrow.Author.Rules.{rules}
 use Rattle.lent.proofs.tell.resolution.Goals as goal
 
 pub returns : goal.returns

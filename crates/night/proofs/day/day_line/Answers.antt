@@ -2,7 +2,6 @@
 use mathlib.Core.Path.{ap}
 use Rattle.night.specs.Lines.{says_of}
 use Rattle.night.proofs.Found.{read-counts}
-use borrow.Author.Rules.{rules}
 use Rattle.night.proofs.day.day_line.Goals as goal
 
 pub call-requires : goal.call-requires

@@ -1,5 +1,4 @@
 -- `night::day::stray` meets its contract: no loop.
-use borrow.Author.Rules.{rules}
 use Rattle.night.proofs.day.stray.Goals as goal
 
 pub returns : goal.returns

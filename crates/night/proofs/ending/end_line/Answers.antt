@@ -4,7 +4,6 @@ use Rattle.tables.specs.Layout.{Tables, tables}
 use Rattle.tables.proofs.Balances.{accounts-bounded}
 use Rattle.rule.proofs.Ints.{plain}
 use native.Mathlib.Omega.{arith}
-use borrow.Author.Rules.{rules}
 use Rattle.night.proofs.ending.end_line.Goals as goal
 
 pub overflow_sub-left : goal.overflow_sub-left

@@ -3,7 +3,6 @@ use Rattle.tables.specs.Layout.{count_of}
 use borrow.Author.Tests.{lt-ltb, le-ltb}
 use native.Mathlib.Omega.{arith}
 use Prim.Native.Nat.{◌<◌, ◌≤◌}
-use borrow.Author.Rules.{rules}
 use Rattle.night.proofs.ending.end_next.Goals as goal
 
 pub returns-then-k-wide : goal.returns-then-k-wide

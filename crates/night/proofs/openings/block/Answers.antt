@@ -1,10 +1,8 @@
 use Rattle.night.proofs.Opening.{block-turn}
 use Rattle.rule.proofs.Ints.{plain}
-use lib.ListN.{length, take, drop, length-set}
+use lib.ListN.{length-set}
 use native.Mathlib.Omega.{arith}
 use mathlib.Core.Path.{◌≡◌, refl, sym}
-use Rattle.tables.specs.Sizes.{members}
-use Prim.Native.Nat.{◌-◌, ◌≤◌}
 use Rattle.night.proofs.openings.block.Goals as goal
 
 pub loop-i-init : goal.loop-i-init

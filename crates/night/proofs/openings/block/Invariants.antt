@@ -1,8 +1,5 @@
-use Rattle.night.proofs.Opening.{block-turn}
-use Rattle.rule.proofs.Ints.{plain}
-use lib.ListN.{length, take, drop, length-set}
-use native.Mathlib.Omega.{arith}
-use mathlib.Core.Path.{◌≡◌, refl, sym}
+use lib.ListN.{length, take, drop}
+use mathlib.Core.Path.{◌≡◌}
 use Rattle.tables.specs.Sizes.{members}
 use Prim.Native.Nat.{◌-◌, ◌≤◌}
 use Rattle.night.proofs.openings.block.Given as goal

@@ -2,7 +2,6 @@
 use Rattle.rule.proofs.Ints.{plain}
 use lib.ListN.{length-set}
 use native.Mathlib.Omega.{arith}
-use borrow.Author.Rules.{rules}
 use Rattle.night.proofs.openings.give.Goals as goal
 
 pub bounds-accounts-seat-2 : goal.bounds-accounts-seat-2

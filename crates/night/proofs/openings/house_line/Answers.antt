@@ -2,7 +2,6 @@
 use mathlib.Core.Path.{sym}
 use native.Mathlib.Omega.{arith}
 use Rattle.night.proofs.Opening.{house-other, house-member, house-none, house-many, house-opens}
-use borrow.Author.Rules.{rules}
 use Rattle.night.proofs.openings.house_line.Goals as goal
 
 pub returns-in_default : goal.returns-in_default

@@ -4,7 +4,6 @@ use native.Mathlib.Omega.{arith}
 use Rattle.tables.specs.Layout.{Tables, tables}
 use Rattle.night.proofs.Found.{small_at}
 use Rattle.night.proofs.Opening.{give-did, member-none, member-house, member-other, member-given, member-opens}
-use borrow.Author.Rules.{rules}
 use Rattle.night.proofs.openings.member_line.Goals as goal
 
 pub returns-in_default : goal.returns-in_default

@@ -1,5 +1,4 @@
 -- `night::openings::stop` meets its contract: no loop.
-use borrow.Author.Rules.{rules}
 use Rattle.night.proofs.openings.stop.Goals as goal
 
 pub returns : goal.returns

@@ -1,7 +1,6 @@
 -- `night::stages::ending_at` meets its contract: no loop; no other stage is the end.
 use Rattle.night.proofs.Found.{still-ending}
 use mathlib.Core.Bool.{false≢true}
-use borrow.Author.Rules.{rules}
 use Rattle.night.proofs.stages.ending_at.Goals as goal
 
 pub returns-in-House : goal.returns-in-House

@@ -4,7 +4,6 @@ use Rattle.tables.specs.Layout.{Tables, tables}
 use lib.ListN.{length}
 use mathlib.Core.List.{[]}
 use mathlib.Core.Path.{sym, ◌∙◌}
-use borrow.Author.Rules.{rules}
 use Rattle.session.proofs.turns.close_on.Goals as goal
 
 pub end_on-requires : goal.end_on-requires

@@ -1,6 +1,5 @@
 -- `session::turns::closes_on` meets its contract: no loop; each test gives one part of `closes_at`.
 use Rattle.tables.proofs.Tests.{flag-no, flag-yes}
-use borrow.Author.Rules.{rules}
 use Rattle.session.proofs.turns.closes_on.Goals as goal
 
 pub returns-then-not-has_room : goal.returns-then-not-has_room

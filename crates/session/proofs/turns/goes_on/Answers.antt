@@ -1,7 +1,6 @@
 -- `session::turns::goes_on` meets its contract: no loop; each test gives one part of `goes_at`.
 use Rattle.tables.proofs.Tests.{flag-no, flag-yes}
 use mathlib.Core.Path.{sym, ◌∙◌}
-use borrow.Author.Rules.{rules}
 use Rattle.session.proofs.turns.goes_on.Goals as goal
 
 pub returns-then-not-has_room : goal.returns-then-not-has_room

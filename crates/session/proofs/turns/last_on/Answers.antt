@@ -5,7 +5,6 @@ use Rattle.desk.specs.declared.State.{State}
 use Rattle.tables.specs.Layout.{Tables, tables}
 use lib.ListN.{length}
 use mathlib.Core.Path.{ap, ◌∙◌}
-use borrow.Author.Rules.{rules}
 use native.Mathlib.Omega.{arith}
 use Rattle.session.proofs.turns.last_on.Goals as goal
 

@@ -6,7 +6,6 @@ use Rattle.tables.specs.Layout.{Tables, tables}
 use Rattle.desk.specs.declared.Turn.{Turn}
 use lib.ListN.{length, drop}
 use mathlib.Core.Path.{sym, ◌∙◌}
-use borrow.Author.Rules.{rules}
 use native.Mathlib.Omega.{arith}
 use Rattle.session.proofs.turns.turn_on.Goals as goal
 

@@ -1,5 +1,4 @@
 -- `tables::look::account_ok` meets its contract: no loop; the first test says which of the two cases holds.
-use borrow.Author.Rules.{rules}
 use borrow.Author.Tests.{lt-ltb, le-ltb}
 use mathlib.Core.Path.{◌≡◌}
 use mathlib.Core.Bool.{true, false}

@@ -1,5 +1,4 @@
 -- `tables::look::accounts_ok` meets its contract: no loop; each test that was passed gives one part of `accounts_ok`, and the first that the sum fits.
-use borrow.Author.Rules.{rules}
 use mathlib.Core.Path.{◌≡◌}
 use native.Mathlib.Omega.{arith}
 use lib.IntN.{pos}

@@ -1,10 +1,9 @@
-use borrow.Author.Rules.{rules}
 use mathlib.Core.Path.{refl}
-use Prim.Native.Nat.{ℕ, ◌<◌, ◌-◌}
+use Prim.Native.Nat.{ℕ, ◌<◌}
 use native.Mathlib.Omega.{arith}
 use lib.ListN.{get_or, get_or-replicate}
 use Rattle.tables.specs.Sizes.{members}
-use Rattle.tables.proofs.Counting.{Counted, counted-room, counted-again, counted-end, payer-few}
+use Rattle.tables.proofs.Counting.{counted-room, counted-again, counted-end, payer-few}
 use Rattle.tables.proofs.look.count_waiting.Goals as goal
 
 pub loop-i-init : goal.loop-i-init

@@ -1,5 +1,4 @@
 -- `tables::look::counters_ok` meets its contract: no loop; each test that was passed gives one part of `counters_ok`.
-use borrow.Author.Rules.{rules}
 use borrow.Author.Tests.{lt-leb, le-leb}
 use mathlib.Core.Path.{◌≡◌}
 use mathlib.Core.Bool.{true}

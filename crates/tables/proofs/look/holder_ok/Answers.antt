@@ -1,5 +1,4 @@
 -- `tables::look::holder_ok` meets its contract: no loop; each test that was passed gives one part of `holder_ok`.
-use borrow.Author.Rules.{rules}
 use mathlib.Core.Path.{◌≡◌, ap, ◌∙◌}
 use mathlib.Core.Bool.{true, false}
 use lib.IntN.{pos, ◌+ℤ◌}

@@ -1,5 +1,4 @@
 -- `tables::look::is_state` meets its contract: no loop; each test that was passed gives one part of `is_state`.
-use borrow.Author.Rules.{rules}
 use borrow.Author.Tests.{lt-leb, le-leb}
 use mathlib.Core.Path.{◌≡◌}
 use mathlib.Core.Bool.{true, false}

@@ -1,5 +1,4 @@
 -- `tables::look::is_zero` meets its contract: no loop, one return for each test.
-use borrow.Author.Rules.{rules}
 use mathlib.Core.Path.{◌≡◌}
 use mathlib.Core.Bool.{true, false}
 use lib.IntN.{pos}

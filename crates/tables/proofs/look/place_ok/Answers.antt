@@ -1,5 +1,4 @@
 -- `tables::look::place_ok` meets its contract: no loop; the test says which of the two cases holds.
-use borrow.Author.Rules.{rules}
 use borrow.Author.Tests.{lt-ltb, le-ltb}
 use Rattle.tables.proofs.look.place_ok.Goals as goal
 

@@ -1,10 +1,7 @@
-use borrow.Author.Rules.{rules}
-use Prim.Native.Nat.{◌-◌}
 use native.Mathlib.Omega.{arith}
-use Rattle.tables.specs.Sizes.{places}
-use Rattle.tables.proofs.Every.{Passed, every-start, every_more, every-fail, every-end}
+use Rattle.tables.proofs.Every.{every-start, every_more, every-fail, every-end}
 use Rattle.tables.proofs.Tests.{flag-no, flag-yes}
-use Rattle.tables.specs.State.{place_at, places_ok}
+use Rattle.tables.specs.State.{places_ok}
 use Rattle.tables.proofs.look.places_ok.Goals as goal
 
 pub loop-k-init : goal.loop-k-init

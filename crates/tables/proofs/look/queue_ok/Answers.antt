@@ -1,5 +1,4 @@
 -- `tables::look::queue_ok` meets its contract: no loop, one return for each test.
-use borrow.Author.Rules.{rules}
 use borrow.Author.Tests.{lt-ltb, le-ltb, eq-eqb, ne_eqb}
 use Rattle.tables.proofs.look.queue_ok.Goals as goal
 

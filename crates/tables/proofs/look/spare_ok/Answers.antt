@@ -1,10 +1,7 @@
-use borrow.Author.Rules.{rules}
 use mathlib.Core.Path.{◌≡◌}
-use Prim.Native.Nat.{◌-◌}
 use native.Mathlib.Omega.{arith}
 use Rattle.rule.proofs.Ints.{plain}
-use Rattle.tables.specs.Layout.{spare_accounts}
-use Rattle.tables.proofs.Every.{Passed, every-start, every_more, every-fail, every-end}
+use Rattle.tables.proofs.Every.{every-start, every_more, every-fail, every-end}
 use Rattle.tables.proofs.Tests.{flag-no, flag-yes}
 use Rattle.tables.specs.State.{spare_at}
 use Rattle.tables.proofs.look.spare_ok.Goals as goal

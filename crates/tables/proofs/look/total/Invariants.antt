@@ -1,15 +1,7 @@
 -- `tables::look::total` meets its contract. The loop's invariant: the sum is that of the first i balances.
-use borrow.Author.Rules.{rules}
-use mathlib.Core.Path.{◌≡◌, refl, ap, ◌∙◌}
-use Prim.Native.Nat.{◌+◌, ◌≤◌, ◌-◌}
-use native.Mathlib.Omega.{arith}
-use native.Mathlib.Numerals.{add-one}
-use lib.IntN.{◌+ℤ◌}
-use mir.Syntax.{w64}
-use mir.Val.{SFits, to_z}
-use Rattle.rule.proofs.Ints.{plain}
+use mathlib.Core.Path.{◌≡◌}
+use Prim.Native.Nat.{◌≤◌, ◌-◌}
 use Rattle.rule.specs.House.{money}
-use Rattle.tables.proofs.Balances.{sum_fits}
 use Rattle.tables.specs.Layout.{balance_of}
 use Rattle.tables.proofs.look.total.Given as goal
 

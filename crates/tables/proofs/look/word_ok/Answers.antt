@@ -1,5 +1,4 @@
 -- `tables::look::word_ok` meets its contract: no loop; each test that was passed gives one part of `word_ok`.
-use borrow.Author.Rules.{rules}
 use borrow.Author.Tests.{lt-ltb, le-ltb, lt-leb, le-leb, eq-eqb, ne_eqb}
 use mathlib.Core.Path.{◌≡◌}
 use mathlib.Core.Bool.{true, false}

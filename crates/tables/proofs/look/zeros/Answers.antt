@@ -1,9 +1,6 @@
-use borrow.Author.Rules.{rules}
 use borrow.Author.Tests.{eq-eqb, ne_eqb}
-use Prim.Native.Nat.{◌-◌}
 use native.Mathlib.Omega.{arith}
-use Rattle.tables.proofs.Every.{Passed, every-start, every_more, every-fail, every-end}
-use Rattle.tables.specs.State.{zero_at}
+use Rattle.tables.proofs.Every.{every-start, every_more, every-fail, every-end}
 use Rattle.tables.proofs.look.zeros.Goals as goal
 
 pub loop-k-init : goal.loop-k-init

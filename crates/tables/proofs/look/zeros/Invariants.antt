@@ -1,9 +1,6 @@
 -- `tables::look::zeros` meets its contract. The loop's invariant: each of the first k counters from the place on is 0.
-use borrow.Author.Rules.{rules}
-use borrow.Author.Tests.{eq-eqb, ne_eqb}
 use Prim.Native.Nat.{◌-◌}
-use native.Mathlib.Omega.{arith}
-use Rattle.tables.proofs.Every.{Passed, every-start, every_more, every-fail, every-end}
+use Rattle.tables.proofs.Every.{Passed}
 use Rattle.tables.specs.State.{zero_at}
 use Rattle.tables.proofs.look.zeros.Given as goal
 

@@ -1,5 +1,4 @@
 -- `tables::steps::signed` meets its contract: no loop.
-use borrow.Author.Rules.{rules}
 use native.Mathlib.Omega.{arith}
 use Rattle.rule.proofs.Ints.{cast}
 use Rattle.tables.proofs.steps.signed.Goals as goal

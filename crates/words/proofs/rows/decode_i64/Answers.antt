@@ -1,11 +1,8 @@
-use borrow.Author.Rules.{rules}
 use native.Mathlib.Omega.{arith}
 use mathlib.Core.Path.{◌∙◌}
-use Prim.Native.Nat.{◌-◌}
 use mir.Syntax.{w64}
-use mir.Val.{to_z}
 use mir.Facts.{to_z-of_z}
-use Rattle.words.proofs.RowTurns.{Filling, fill_start, fill-turn, fill_end}
+use Rattle.words.proofs.RowTurns.{fill_start, fill-turn, fill_end}
 use Rattle.words.proofs.rows.decode_i64.Goals as goal
 
 pub loop-i-init : goal.loop-i-init

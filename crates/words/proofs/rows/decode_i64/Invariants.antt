@@ -1,12 +1,8 @@
 -- `words::rows::decode_i64` meets its contract. The loop's invariant: the first i numbers are filled in. The measure is how many are left.
-use borrow.Author.Rules.{rules}
-use native.Mathlib.Omega.{arith}
-use mathlib.Core.Path.{◌∙◌}
 use Prim.Native.Nat.{◌-◌}
 use mir.Syntax.{w64}
 use mir.Val.{to_z}
-use mir.Facts.{to_z-of_z}
-use Rattle.words.proofs.RowTurns.{Filling, fill_start, fill-turn, fill_end}
+use Rattle.words.proofs.RowTurns.{Filling}
 use Rattle.words.proofs.rows.decode_i64.Given as goal
 
 abbrev pub invariant-loop-i : goal.invariant-loop-i

@@ -1,8 +1,5 @@
-use borrow.Author.Rules.{rules}
 use native.Mathlib.Omega.{arith}
-use Prim.Native.Nat.{◌-◌}
-use Rattle.words.proofs.RowTurns.{Filling, fill_start, fill-turn, fill_end}
-use Rattle.words.specs.Row.{as_it_is}
+use Rattle.words.proofs.RowTurns.{fill_start, fill-turn, fill_end}
 use Rattle.words.proofs.rows.decode_u16.Goals as goal
 
 pub loop-i-init : goal.loop-i-init

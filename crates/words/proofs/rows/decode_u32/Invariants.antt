@@ -1,8 +1,6 @@
 -- `words::rows::decode_u32` meets its contract. The loop's invariant: the first i numbers are filled in. The measure is how many are left.
-use borrow.Author.Rules.{rules}
-use native.Mathlib.Omega.{arith}
 use Prim.Native.Nat.{◌-◌}
-use Rattle.words.proofs.RowTurns.{Filling, fill_start, fill-turn, fill_end}
+use Rattle.words.proofs.RowTurns.{Filling}
 use Rattle.words.specs.Row.{as_it_is}
 use Rattle.words.proofs.rows.decode_u32.Given as goal
 

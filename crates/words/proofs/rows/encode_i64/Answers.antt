@@ -1,9 +1,5 @@
-use borrow.Author.Rules.{rules}
 use native.Mathlib.Omega.{arith}
-use Prim.Native.Nat.{◌-◌}
-use mir.Syntax.{w64}
-use mir.Val.{of_z}
-use Rattle.words.proofs.RowTurns.{Writing, write-start, write-turn-signed, write-end}
+use Rattle.words.proofs.RowTurns.{write-start, write-turn-signed, write-end}
 use Rattle.words.proofs.rows.encode_i64.Goals as goal
 
 pub loop-i-init : goal.loop-i-init

@@ -1,10 +1,8 @@
 -- `words::rows::encode_i64` meets its contract. The loop's invariant: with the numbers from i on written, all is as it is to be. The measure is how many are left.
-use borrow.Author.Rules.{rules}
-use native.Mathlib.Omega.{arith}
 use Prim.Native.Nat.{◌-◌}
 use mir.Syntax.{w64}
 use mir.Val.{of_z}
-use Rattle.words.proofs.RowTurns.{Writing, write-start, write-turn-signed, write-end}
+use Rattle.words.proofs.RowTurns.{Writing}
 use Rattle.words.proofs.rows.encode_i64.Given as goal
 
 abbrev pub invariant-loop-i : goal.invariant-loop-i

@@ -1,8 +1,5 @@
-use borrow.Author.Rules.{rules}
 use native.Mathlib.Omega.{arith}
-use Prim.Native.Nat.{◌-◌}
-use Rattle.words.proofs.RowTurns.{Writing, write-start, write-turn, write-end}
-use Rattle.words.specs.Row.{as_it_is}
+use Rattle.words.proofs.RowTurns.{write-start, write-turn, write-end}
 use Rattle.words.proofs.rows.encode_u64.Goals as goal
 
 pub loop-i-init : goal.loop-i-init

@@ -1,8 +1,6 @@
 -- `words::rows::encode_u64` meets its contract. The loop's invariant: with the numbers from i on written, all is as it is to be. The measure is how many are left.
-use borrow.Author.Rules.{rules}
-use native.Mathlib.Omega.{arith}
 use Prim.Native.Nat.{◌-◌}
-use Rattle.words.proofs.RowTurns.{Writing, write-start, write-turn, write-end}
+use Rattle.words.proofs.RowTurns.{Writing}
 use Rattle.words.specs.Row.{as_it_is}
 use Rattle.words.proofs.rows.encode_u64.Given as goal
 
