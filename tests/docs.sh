@@ -14,12 +14,14 @@ check() { # WHAT TEST..
 
 # ---- names
 
-for cite in $(grep -hoE '`[a-z]+/[A-Z][A-Za-z]*\.[^` ]+`' README.md docs/*.md | tr -d '`' | sort -u); do
+# PORT.md is left out: it names what went.
+pages="README.md $(ls docs/*.md | grep -v PORT.md)"
+for cite in $(grep -hoE '`[a-z]+/[A-Z][A-Za-z]*\.[^` ]+`' $pages | tr -d '`' | sort -u); do
     crate=${cite%%/*} rest=${cite#*/}
     file=${rest%%.*} name=${rest#*.}
     check "no $name in crates/$crate/*/$file.antt" grep -qE "^ *((abbrev|unfoldable) )?pub ((record|data) )?$name( |\$)" "crates/$crate/specs/$file.antt" "crates/$crate/proofs/$file.antt" 2>/dev/null
 done
-for path in $(grep -hoE '`(\./)?[a-z.]+/[A-Za-z0-9_./-]*`' README.md docs/*.md | tr -d '`' | grep -vE '/[A-Z][A-Za-z]*\.[a-z]+[A-Za-z-]*-|^target/|^(src|specs|proofs)/|/Q-n' | sort -u); do
+for path in $(grep -hoE '`(\./)?[a-z.]+/[A-Za-z0-9_./-]*`' $pages | tr -d '`' | grep -vE '/[A-Z][A-Za-z]*\.[a-z]+[A-Za-z-]*-|^target/|^(src|specs|proofs)/|/Q-n' | sort -u); do
     case $path in */[A-Z]*.[a-zA-Z]*) case $path in *.md | *.antt | *.h) ;; *) continue ;; esac ;; esac
     check "no $path in the project" test -e "$path"
 done
