@@ -7,7 +7,10 @@ use std::io::{Stderr, Write};
 use tables::House;
 
 fn main(rt: HostRuntime) {
-    if has_arguments(&rt) {
+    // Where a word stands behind the program's name, it is told how the program is called.
+    let mut word = [0u8; 1];
+    let is_plain = matches!(rt.arg(1, &mut word), Err(FillError::NotPresent));
+    if !is_plain {
         tell_usage(rt.stderr());
         return;
     }
@@ -17,12 +20,6 @@ fn main(rt: HostRuntime) {
         errors: rt.stderr(),
     };
     night(streams);
-}
-
-// Whether a word stands behind the program's name.
-fn has_arguments(rt: &impl Env) -> bool {
-    let mut word = [0u8; 1];
-    !matches!(rt.arg(1, &mut word), Err(FillError::NotPresent))
 }
 
 // Says how the program is called.
