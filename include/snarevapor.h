@@ -52,7 +52,7 @@
  *     }
  *
  * Installed by `host/install PREFIX` it is built by `cc small.c $(pkg-config --cflags --libs snarevapor)`; in the project's own folder
- * `rt staticlib snarevapor` writes the archive, and `cc -I include examples/small.c target/staticlib/libsnarevapor.a` builds it. It prints
+ * `host/build` writes the archive, and `cc -I include examples/small.c target/staticlib/libsnarevapor.a` builds it. It prints
  *
  *     refused with 5: number out of turn
  *     some of what waits is settled

@@ -28,10 +28,13 @@ done
 
 # ---- edits
 
-# Each edit says in one form of words what is so, and what refuses the program in which it is not.
+# Each edit says in one form of words what is so, and what refuses the program in which it is not; and there are as many as TESTS.md says.
 for edit in crates/*/must-fail/*.edit; do
     check "$edit: its first line is not '# .. : refused by \`NAME\`.'" sh -c "head -n 1 '$edit' | grep -qE '^# .+: refused by \`[^\`]+\`\.\$'"
 done
+
+edits=$(find crates/*/must-fail -name '*.edit' | wc -l)
+check "TESTS.md does not say that there are $edits edits" grep -qF "$edits edits" docs/TESTS.md
 
 # ---- the crates' numbers
 

@@ -92,7 +92,7 @@ what "a slow reader with a full pipe" told 0 "$work/sheet" ""
 { "$sheet" <"$work/day" 2>"$work/said"; echo $? >"$work/status"; } | head -c 5000 >"$work/got"
 status=$(cat "$work/status")
 head -c 5000 "$work/sheet" >"$work/want"
-# It is ended by the signal, unless whoever runs this test ignores that.
+# The program ignores the signal of a closed pipe, and says that it cannot write; an older kit's was ended by it.
 closes() { told 141 "$work/want" "" >/dev/null || told 0 "$work/want" "nightsheet: cannot write"; }
 what "a pipe that closes" closes
 

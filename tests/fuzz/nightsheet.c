@@ -1,4 +1,4 @@
-/* A fuzzer of nightsheet, whose object file is linked here with its `main`, `read` and `write` renamed. Bytes are taken as a day file, or
+/* A fuzzer of nightsheet, whose object file is linked here with its `main`, `read` and `write` renamed, and with no word behind its name. Bytes are taken as a day file, or
  * as the numbers of one that is mostly well-formed. Of each it is looked whether
  *   - the sheet is the same however the input comes in pieces, and nothing is said on standard error,
  *   - each line is one that document 01 has, of at most 80 bytes, and line numbers rise,
@@ -14,6 +14,9 @@
 int nightsheet_main(void);
 ssize_t nightsheet_read(int from, void *to, size_t most);
 ssize_t nightsheet_write(int to, const void *bytes, size_t count);
+ssize_t rattle_arg(size_t at, void *to, size_t most);
+int rattle_errno(void);
+void rattle_set_errno(int number);
 
 enum { DAY = 1 << 18, SHEET = 1 << 20, KINDS = 10 };
 
@@ -53,6 +56,18 @@ ssize_t nightsheet_write(int to, const void *bytes, size_t count) {
     sheet_length += count;
     return (ssize_t)count;
 }
+
+/* What the program asks of the system else: a word behind its name, of which there is none, and the number of the last error. */
+static int error;
+
+ssize_t rattle_arg(size_t at, void *to, size_t most) {
+    (void)at, (void)to, (void)most;
+    return -1;
+}
+
+int rattle_errno(void) { return error; }
+
+void rattle_set_errno(int number) { error = number; }
 
 /* The sheet of the day, the input coming in pieces by that seed. */
 static void run(unsigned seed) {
