@@ -10,7 +10,7 @@ use lib.IntN.{ℤ, pos, ◌+ℤ◌}
 use lib.ListN.{length, get_or}
 use Rattle.rule.specs.Kernel.{Counts, sum}
 use Rattle.rule.specs.Payment.{word}
-use Rattle.rule.specs.Day.{Call, deposit, submit, settle, only_for, Lived, done, next, payments, deposits as depositsOf}
+use Rattle.rule.specs.Day.{Call, deposit, submit, settle, only_for, Lived, done, next, payments, deposits as deposits_of}
 use Rattle.rule.proofs.Ints.{plus-zero}
 use Rattle.rule.proofs.Sums.{sum-zero, sum-cong, sum-only}
 use Rattle.rule.proofs.Payments.{payer-word}
@@ -43,7 +43,7 @@ pub record Carried (T : Tables) (cs : List Call) (W : Tables) : Type 0 where
   pub members : members_in W ≡ members_in T
   pub lived : Lived (members_in T) (house_in T) cs (house_in W)
   pub lasts : (i : ℕ) → i < members_in T → last_of W.counters i ≡ last_of T.counters i + length (payments cs i)
-  pub money : money_of W.accounts ≡ money_of T.accounts +ℤ pos (sum (members_in T) (depositsOf cs))
+  pub money : money_of W.accounts ≡ money_of T.accounts +ℤ pos (sum (members_in T) (deposits_of cs))
 
 -- ---- one call
 

@@ -9,7 +9,7 @@ use lib.Signed.{◌≤ℤ◌}
 use lib.ListN.{get_or}
 use Rattle.rule.specs.Kernel.{Counts, sum}
 use Rattle.rule.specs.House.{House, LargestSet, Same, booked, money}
-use Rattle.rule.specs.Day.{Call as Noted, deposits as depositsOf, payments, credited, lined, at_once}
+use Rattle.rule.specs.Day.{Call as Noted, deposits as deposits_of, payments, credited, lined, at_once}
 use Rattle.rule.proofs.Sums.{sum-cong}
 use Rattle.tables.specs.Layout.{Tables, members_in, house_in, money_of, cover_of}
 use Rattle.tables.specs.Holds.{Holds}
@@ -78,11 +78,11 @@ module _ {n : ℕ} {u v s t : List ℕ} (c : HostCall (opens n u v) 0 s t) where
     day-stands = (chained opened-stands d).stands.kept.holds
 
     -- the sum of balances is the opening sum plus accepted deposits,
-    pub day-sum : money_of (accounts_in e) ≡ money n (entry (signed_in u)) +ℤ pos (sum n (depositsOf (notes d)))
+    pub day-sum : money_of (accounts_in e) ≡ money n (entry (signed_in u)) +ℤ pos (sum n (deposits_of (notes d)))
     day-sum =
         let k = chained opened-stands d in
         ap (λ (T : Tables). money_of T.accounts) k.is ∙ day-money begun (requests d) k.inside
-        ∙ ap (λ m. money n (entry (signed_in u)) +ℤ pos m) (sum-cong n (depositsOf (made (requests d) (tables_in t))) (depositsOf (notes d)) (λ i q. k.deposits i))
+        ∙ ap (λ m. money n (entry (signed_in u)) +ℤ pos m) (sum-cong n (deposits_of (made (requests d) (tables_in t))) (deposits_of (notes d)) (λ i q. k.deposits i))
 
     -- and each member is at or above minus its line
     pub day-covered : (i : ℕ) → i < n → pos 0 ≤ℤ cover_of (accounts_in e) i
@@ -110,7 +110,7 @@ resolved-is k T e f =
     let g = ap (decided (resolve_act k) T) e in
     g ∙ ap (outcome _) (sym (f ∙ ap (λ (u : Outcome (Resolved × List ℕ)). u.after) g))
 
-at-once-same : (O : House) (cs ds : List Noted) → ((i : ℕ) → depositsOf cs i ≡ depositsOf ds i) → ((i : ℕ) → payments cs i ≡ payments ds i)
+at-once-same : (O : House) (cs ds : List Noted) → ((i : ℕ) → deposits_of cs i ≡ deposits_of ds i) → ((i : ℕ) → payments cs i ≡ payments ds i)
     → at_once O cs ≡ at_once O ds
 at-once-same O cs ds e f j = lined (credited O (λ i. e i j)) (λ i. f i j)
 
@@ -140,7 +140,7 @@ module _ {n : ℕ} {u v t : List ℕ} (d : HostDay n u v t) where
       (z.0, subst (λ H. LargestSet n H z.0) e z.1, subst (λ H. Same n (booked n H z.0) (house_in (tables_in t))) e z.2)
 
 module _ {n : ℕ} {u v t r : List ℕ} (d : HostDay n u v t) (e : HostDay n u v r)
-    (paid-in : (i : ℕ) → i < n → depositsOf (notes e.calls) i ≡ depositsOf (notes d.calls) i)
+    (paid-in : (i : ℕ) → i < n → deposits_of (notes e.calls) i ≡ deposits_of (notes d.calls) i)
     (paid : (i : ℕ) → i < n → payments (notes e.calls) i ≡ payments (notes d.calls) i) where
   -- two days that open alike, with equal totals of accepted deposits for each member and the same accepted payments in the same order
   -- for each payer, end with equal balances,

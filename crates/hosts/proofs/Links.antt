@@ -4,7 +4,7 @@ use mathlib.Core.List.{List, [], ◌∷◌}
 use Prim.Native.Nat.{ℕ, zero, suc, ◌≤◌}
 use native.Mathlib.Omega.{arith}
 use lib.ListN.{length}
-use Rattle.rule.specs.Day.{Call as Noted, deposits as depositsOf, payments}
+use Rattle.rule.specs.Day.{Call as Noted, deposits as deposits_of, payments}
 use Rattle.tables.specs.Sizes.{bytes}
 use Rattle.tables.specs.Layout.{Tables}
 use Rattle.tables.specs.Holds.{Holds}
@@ -32,7 +32,7 @@ pub record Link (s t : List ℕ) (cs : List Noted) (qs : List Request) : Type 0 
   pub stands : Stands t
   pub inside : Inside qs (tables_in s)
   pub is : tables_in t ≡ after_all qs (tables_in s)
-  pub deposits : (i : ℕ) → depositsOf (made qs (tables_in s)) i ≡ depositsOf cs i
+  pub deposits : (i : ℕ) → deposits_of (made qs (tables_in s)) i ≡ deposits_of cs i
   pub payments : (i : ℕ) → payments (made qs (tables_in s)) i ≡ payments cs i
 
 -- lists that were stored are read back
@@ -56,13 +56,13 @@ pub record Took (s t : List ℕ) (cs : List Noted) (qs : List Request) : Type 0 
   pub holds : Holds (tables_in s)
   pub inside : Inside qs (tables_in s)
   pub stored : t ≡ with_tables s (after_all qs (tables_in s))
-  pub deposits : (i : ℕ) → depositsOf (made qs (tables_in s)) i ≡ depositsOf cs i
+  pub deposits : (i : ℕ) → deposits_of (made qs (tables_in s)) i ≡ deposits_of cs i
   pub payments : (i : ℕ) → payments (made qs (tables_in s)) i ≡ payments cs i
 
 -- an accepted call of the act k is the request r, where r does what k does, and of it ns is noted
 module _ {A : Type 0} (k : Act A) (r : Request) {ns : List Noted} {s t : List ℕ} (a : Accepted k (judgement k (tables_in s)) s t) where
   took : after r (tables_in s) ≡ (called k (tables_in s)).after → GoesOn r (tables_in s)
-      → (judgement k (tables_in s) ≡ Fine → (i : ℕ) → depositsOf (made (r ∷ []) (tables_in s)) i ≡ depositsOf ns i)
+      → (judgement k (tables_in s) ≡ Fine → (i : ℕ) → deposits_of (made (r ∷ []) (tables_in s)) i ≡ deposits_of ns i)
       → (judgement k (tables_in s) ≡ Fine → (i : ℕ) → payments (made (r ∷ []) (tables_in s)) i ≡ payments ns i) → Took s t ns (r ∷ [])
   unfolding called
   took e g f h = record {

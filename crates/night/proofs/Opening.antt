@@ -16,7 +16,7 @@ use Rattle.rule.proofs.Ints.{held}
 use Rattle.numbers.specs.Numbers.{most_digits}
 use Rattle.numbers.proofs.Signs.{held_small}
 use Rattle.opening.specs.Open.{open_act}
-use Rattle.answers.specs.Outcome.{outcome, held as heldOn}
+use Rattle.answers.specs.Outcome.{outcome, held as held_on}
 use Rattle.answers.specs.declared.Opened.{Opened}
 use Rattle.answers.specs.declared.Opened.TheVariants as opens
 use Rattle.answers.specs.declared.Refusal.{Refusal}
@@ -108,6 +108,6 @@ module _ (n count : ℕ) (t : Tables) (r : Does) (o : Opened) where
   open-refused k e q = q ∙ rw e
 
   pub open-did : {W : Tables} (b l : List ℤ) → r ≡ record { said = One (open_says n count o); stage = open_stage o }
-      → b ≡ balances_given count t → l ≡ lines_given count t → outcome o W ≡ heldOn (open_act count b l) t
+      → b ≡ balances_given count t → l ≡ lines_given count t → outcome o W ≡ held_on (open_act count b l) t
       → done_by r W.accounts W.counters W.pays ≡ open_does n count t
   open-did b l q eb el eo = rw (q, sym eb, sym el) (ap (opens_to n count) eo)

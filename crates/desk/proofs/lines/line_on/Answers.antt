@@ -11,7 +11,7 @@ use Rattle.desk.proofs.lines.line_on.Goals as goal
 
 pub take_line-requires : goal.take_line-requires
 take_line-requires c = let l : Line = held_line (state_of c.args.buf.now c.args.s.cut) in
-    (c.requires.fit.0, line_read l c.read-e.ensures, c.if-s-lt-MOST_LINES.true, c.requires.counts_len.2)
+    (c.requires.fit.0, line_read l c.read-e.ensures, omega arith, c.requires.counts_len.2)
 
 pub returns-then-s-lt-MOST_LINES : goal.returns-then-s-lt-MOST_LINES
 returns-then-s-lt-MOST_LINES c = let t : Tables = tables c.args.accounts.now c.args.counters.now c.args.pays.now in
