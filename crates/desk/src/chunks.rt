@@ -25,9 +25,9 @@ pub fn eat_on(
     s: State,
 ) -> Turn
     requires fit { Fit s (tables accounts.old counters.old pays.old) (length out.old) × (is_over s.stage ≡ false) }
-    requires counts_len { (length counts.old ≡ most_counts) × (length buf.old ≡ most_bytes) × (from < length chunk.now) × (s.used + least_room ≤ length out.old) }
-    ensures buf_after { desk_of (drop result.at chunk.now) result.state (tables accounts.new counters.new pays.new) out.new buf.new ≡ eat_turn (desk_of (drop from chunk.now) s (tables accounts.old counters.old pays.old) out.old buf.old) }
-    ensures fit_2 { Fit result.state (tables accounts.new counters.new pays.new) (length out.old) × (from < result.at) × (result.at ≤ length chunk.now) × Grown s.used result.state.used out.old out.new }
+    requires lengths { (length counts.old ≡ most_counts) × (length buf.old ≡ most_bytes) × (from < length chunk.now) × (s.used + least_room ≤ length out.old) }
+    ensures turn { desk_of (drop result.at chunk.now) result.state (tables accounts.new counters.new pays.new) out.new buf.new ≡ eat_turn (desk_of (drop from chunk.now) s (tables accounts.old counters.old pays.old) out.old buf.old) }
+    ensures fits { Fit result.state (tables accounts.new counters.new pays.new) (length out.old) × (from < result.at) × (result.at ≤ length chunk.now) × Grown s.used result.state.used out.old out.new }
 {
     let e = dayfile::lines::whole(chunk, from, s.cut);
     if e < chunk.len() {
@@ -70,9 +70,9 @@ fn part_on(
     s: State,
 ) -> Turn
     requires fit { Fit s (tables accounts.old counters.old pays.old) (length out.old) × (is_over s.stage ≡ false) }
-    requires counts_len { (length counts.old ≡ most_counts) × (length buf.old ≡ most_bytes) × (from < length chunk.now) × (s.used + least_room ≤ length out.old) }
-    ensures buf_after { desk_of (drop result.at chunk.now) result.state (tables accounts.new counters.new pays.new) out.new buf.new ≡ eat_turn (desk_of (drop from chunk.now) s (tables accounts.old counters.old pays.old) out.old buf.old) }
-    ensures fit_2 { Fit result.state (tables accounts.new counters.new pays.new) (length out.old) × (from < result.at) × (result.at ≤ length chunk.now) × Grown s.used result.state.used out.old out.new }
+    requires lengths { (length counts.old ≡ most_counts) × (length buf.old ≡ most_bytes) × (from < length chunk.now) × (s.used + least_room ≤ length out.old) }
+    ensures turn { desk_of (drop result.at chunk.now) result.state (tables accounts.new counters.new pays.new) out.new buf.new ≡ eat_turn (desk_of (drop from chunk.now) s (tables accounts.old counters.old pays.old) out.old buf.old) }
+    ensures fits { Fit result.state (tables accounts.new counters.new pays.new) (length out.old) × (from < result.at) × (result.at ≤ length chunk.now) × Grown s.used result.state.used out.old out.new }
 {
     let a = dayfile::lines::eat(chunk, from, buf, s.cut);
     let k = a.cut;

@@ -32,9 +32,9 @@ pub fn line_on(
     s: State,
 ) -> State
     requires fit { Fit s (tables accounts.old counters.old pays.old) (length out.old) × (is_over s.stage ≡ false) }
-    requires counts_len { (length counts.old ≡ most_counts) × (s.cut.held ≤ length buf.now) × (s.used + least_room ≤ length out.old) }
+    requires lengths { (length counts.old ≡ most_counts) × (s.cut.held ≤ length buf.now) × (s.used + least_room ≤ length out.old) }
     ensures out_after { night_of result (tables accounts.new counters.new pays.new) out.new ≡ answered (night_of s (tables accounts.old counters.old pays.old) out.old) (held_line (state_of buf.now s.cut)) }
-    ensures fit_2 { Fit result (tables accounts.new counters.new pays.new) (length out.old) × (result.cut ≡ fresh) × Grown s.used result.used out.old out.new }
+    ensures fits { Fit result (tables accounts.new counters.new pays.new) (length out.old) × (result.cut ≡ fresh) × Grown s.used result.used out.old out.new }
 {
     if s.lines < dayfile::MOST_LINES {
         let e = read(buf, s.cut, counts);

@@ -65,7 +65,7 @@ pub fn whole(
         state: s,
     };
     let mut turns = u64::MAX;
-    while goes_on(r, turns) {
+    'steps: while goes_on(r, turns) {
         r = step(
             streams, chunk, buf, counts, accounts, counters, pays, out, r,
         );

@@ -36,9 +36,9 @@ pub fn feed(
     s: State,
 ) -> Turn
     requires fit { Fit s (tables accounts.old counters.old pays.old) (length out.old) }
-    requires counts_len { (length counts.old ≡ most_counts) × (length buf.old ≡ most_bytes) × (from ≤ length chunk.now) }
+    requires lengths { (length counts.old ≡ most_counts) × (length buf.old ≡ most_bytes) × (from ≤ length chunk.now) }
     ensures stops { Stops turn_of (goes_on (length out.old)) (desk_of (drop from chunk.now) s (tables accounts.old counters.old pays.old) out.old buf.old) (desk_of (drop result.at chunk.now) result.state (tables accounts.new counters.new pays.new) out.new buf.new) }
-    ensures fit_2 { Fit result.state (tables accounts.new counters.new pays.new) (length out.old) × (result.at ≤ length chunk.now) × Grown s.used result.state.used out.old out.new }
+    ensures fits { Fit result.state (tables accounts.new counters.new pays.new) (length out.old) × (result.at ≤ length chunk.now) × Grown s.used result.state.used out.old out.new }
 {
     let mut t = Turn { at: from, state: s };
     while turns::goes_on(t, chunk.len(), out.len()) {

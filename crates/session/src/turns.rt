@@ -61,9 +61,9 @@ pub fn turn_on(
     s: State,
 ) -> Turn
     requires fit { Fit s (tables accounts.old counters.old pays.old) (length out.old) }
-    requires counts_len { (length counts.old ≡ most_counts) × (length buf.old ≡ most_bytes) × (from ≤ length chunk.now) × (goes_at (length chunk.now) (length out.old) (record { at = from; state = s }) ≡ true) }
-    ensures buf_after { desk_of (drop result.at chunk.now) result.state (tables accounts.new counters.new pays.new) out.new buf.new ≡ turn_of (desk_of (drop from chunk.now) s (tables accounts.old counters.old pays.old) out.old buf.old) }
-    ensures fit_2 { Fit result.state (tables accounts.new counters.new pays.new) (length out.old) × (result.at ≤ length chunk.now) × (turns_left result.state.stage (length chunk.now - result.at) < turns_left s.stage (length chunk.now - from)) × Grown s.used result.state.used out.old out.new }
+    requires lengths { (length counts.old ≡ most_counts) × (length buf.old ≡ most_bytes) × (from ≤ length chunk.now) × (goes_at (length chunk.now) (length out.old) (record { at = from; state = s }) ≡ true) }
+    ensures turn { desk_of (drop result.at chunk.now) result.state (tables accounts.new counters.new pays.new) out.new buf.new ≡ turn_of (desk_of (drop from chunk.now) s (tables accounts.old counters.old pays.old) out.old buf.old) }
+    ensures fits { Fit result.state (tables accounts.new counters.new pays.new) (length out.old) × (result.at ≤ length chunk.now) × (turns_left result.state.stage (length chunk.now - result.at) < turns_left s.stage (length chunk.now - from)) × Grown s.used result.state.used out.old out.new }
 {
     let stage = s.stage;
     if is_ending(stage) {
@@ -84,7 +84,7 @@ pub fn close_on(
     s: State,
 ) -> State
     requires { Fit s (tables accounts.old counters.old pays.old) (length out.old) × (length counts.old ≡ most_counts) × (length buf.now ≡ most_bytes) × (closes_at (length out.old) s ≡ true) }
-    ensures buf_after { desk_of [] result (tables accounts.new counters.new pays.new) out.new buf.now ≡ close_turn (desk_of [] s (tables accounts.old counters.old pays.old) out.old buf.now) }
+    ensures turn { desk_of [] result (tables accounts.new counters.new pays.new) out.new buf.now ≡ close_turn (desk_of [] s (tables accounts.old counters.old pays.old) out.old buf.now) }
     ensures fit { Fit result (tables accounts.new counters.new pays.new) (length out.old) × (turns_left result.stage result.cut.held < turns_left s.stage s.cut.held) × Grown s.used result.used out.old out.new }
 {
     let stage = s.stage;
@@ -105,9 +105,9 @@ fn last_on(
     s: State,
 ) -> State
     requires fit { Fit s (tables accounts.old counters.old pays.old) (length out.old) × (is_over s.stage ≡ false) × (is_ending s.stage ≡ false) }
-    requires counts_len { (length counts.old ≡ most_counts) × (length buf.now ≡ most_bytes) × (s.used + least_room ≤ length out.old) }
+    requires lengths { (length counts.old ≡ most_counts) × (length buf.now ≡ most_bytes) × (s.used + least_room ≤ length out.old) }
     ensures out_after { night_of result (tables accounts.new counters.new pays.new) out.new ≡ last_night (take s.cut.held buf.now) (desk_of [] s (tables accounts.old counters.old pays.old) out.old buf.now) }
-    ensures fit_2 { Fit result (tables accounts.new counters.new pays.new) (length out.old) × (result.cut ≡ fresh) × (turns_left result.stage 0 < turns_left s.stage s.cut.held) × Grown s.used result.used out.old out.new }
+    ensures fits { Fit result (tables accounts.new counters.new pays.new) (length out.old) × (result.cut ≡ fresh) × (turns_left result.stage 0 < turns_left s.stage s.cut.held) × Grown s.used result.used out.old out.new }
 {
     let c = s.cut;
     if c.held > 0 {

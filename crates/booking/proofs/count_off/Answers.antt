@@ -15,7 +15,7 @@ use Rattle.booking.specs.Booking.{listed}
 use Rattle.booking.proofs.Filling.{fill-part}
 use Rattle.booking.proofs.count_off.Goals as goal
 
--- LEFT
+-- the block of settled numbers has those of member i at place i
 block : (c : List ℕ) (i : ℕ) → i < members → get_or (take members (drop settled_at c)) i 0 ≡ settled_of c i
 block c i h = get_or-take members (drop settled_at c) i 0 h ∙ get_or-drop settled_at c i 0
 

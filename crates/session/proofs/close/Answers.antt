@@ -20,7 +20,7 @@ pub loop-counts-preserved : goal.loop-counts-preserved
 loop-counts-preserved c = let g = c.loop-counts.invariant in
     let r = c.close_on-t in
     let e = closes-at g.0 (sym c.closes_on.ensures ∙ c.loop-counts-test.true) in (
-      going_next g.0 e r.ensures.buf_after r.ensures.fit.0 r.ensures.fit.2 refl (omega (arith, r.auto)) (omega (arith, r.auto)),
+      going_next g.0 e r.ensures.turn r.ensures.fit.0 r.ensures.fit.2 refl (omega (arith, r.auto)) (omega (arith, r.auto)),
       omega (arith, r.auto, g.1),
       omega (arith, r.auto, g.2),
       omega (arith, r.auto, g.3),

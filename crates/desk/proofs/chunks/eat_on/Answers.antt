@@ -33,7 +33,7 @@ line_on-r-requires c =
     let n = c.whole-e.result - c.args.from in
     let q = ap (λ (x : Cut). x.held) c.held.ensures in
     let l = length-take-le n (drop c.args.from c.args.chunk.now) (omega (arith, length-drop c.args.from c.args.chunk.now, c.if-e-chunk.true)) in
-    let f = c.requires.fit.0 in record { fit = (record { few = f.few; room = f.room; held = omega (arith, q, there.short); stands = f.stands }, c.requires.fit.1); counts_len = (c.requires.counts_len.0, omega (arith, q, l), c.requires.counts_len.3) }
+    let f = c.requires.fit.0 in record { fit = (record { few = f.few; room = f.room; held = omega (arith, q, there.short); stands = f.stands }, c.requires.fit.1); lengths = (c.requires.lengths.0, omega (arith, q, l), c.requires.lengths.3) }
 
 pub returns-then-e-chunk : goal.returns-then-e-chunk
 returns-then-e-chunk c =
@@ -42,8 +42,8 @@ returns-then-e-chunk c =
     let d = c.line_on-r in
     let u : Tables = tables d.new.accounts d.new.counters d.new.pays in
     let n : Night = night_of d.result u d.new.out in record {
-      buf_after = ap (λ (k : Cut). record { rest = drop (c.whole-e.result + 1) a.chunk.now; night = n; held = state_of a.buf.now k }) d.ensures.fit_2.1
+      turn = ap (λ (k : Cut). record { rest = drop (c.whole-e.result + 1) a.chunk.now; night = n; held = state_of a.buf.now k }) d.ensures.fits.1
           ∙ whole-done a.chunk.now a.buf.now a.from (night_of a.s (tables a.accounts.now a.counters.now a.pays.now) a.out.now)
           there c.if-e-chunk.true c.held.ensures d.ensures.out_after;
-      fit_2 = (d.ensures.fit_2.0, omega (arith, there.start), omega (arith, c.if-e-chunk.true), d.ensures.fit_2.2);
+      fits = (d.ensures.fits.0, omega (arith, there.start), omega (arith, c.if-e-chunk.true), d.ensures.fits.2);
     }

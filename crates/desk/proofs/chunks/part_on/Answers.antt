@@ -15,8 +15,8 @@ pub line_on-e-requires : goal.line_on-e-requires
 line_on-e-requires c =
     let held : Held = state_of c.args.buf.now c.args.s.cut in
     let f = c.requires.fit.0 in
-    let p = c.requires.counts_len in
-    record { fit = (record { few = f.few; room = f.room; held = c.eat-a.ensures.at_in_bounds.1; stands = f.stands }, c.requires.fit.1); counts_len = (p.0, omega arith, p.3) }
+    let p = c.requires.lengths in
+    record { fit = (record { few = f.few; room = f.room; held = c.eat-a.ensures.at_in_bounds.1; stands = f.stands }, c.requires.fit.1); lengths = (p.0, omega arith, p.3) }
 
 pub returns-then-a : goal.returns-then-a
 returns-then-a c =
@@ -26,15 +26,15 @@ returns-then-a c =
     let d = c.line_on-e in
     let u : Tables = tables d.new.accounts d.new.counters d.new.pays in
     let n : Night = night_of d.result u d.new.out in record {
-      buf_after = ap (λ (k : Cut). record { rest = drop a.result.at c.args.chunk.now; night = n; held = state_of a.new.buf k }) d.ensures.fit_2.1
+      turn = ap (λ (k : Cut). record { rest = drop a.result.at c.args.chunk.now; night = n; held = state_of a.new.buf k }) d.ensures.fits.1
           ∙ eat-done c.args.chunk.now c.args.from eve held a.result.at (state_of a.new.buf a.result.cut) n
           (sym c.if-a.true ∙ a.ensures.ate_so.done) a.ensures.ate_so.place a.ensures.ate_so.held d.ensures.out_after;
-      fit_2 = (
-        d.ensures.fit_2.0,
+      fits = (
+        d.ensures.fits.0,
         eat-more c.args.chunk.now c.args.from held a.result.at a.ensures.ate_so.place
-            c.requires.counts_len.2,
+            c.requires.lengths.2,
         a.ensures.at_in_bounds.0,
-        d.ensures.fit_2.2,
+        d.ensures.fits.2,
       );
     }
 
@@ -44,11 +44,11 @@ returns c =
     let held : Held = state_of c.args.buf.now c.args.s.cut in
     let a = c.eat-a in
     let f = c.requires.fit.0 in record {
-      buf_after = eat-open c.args.chunk.now c.args.from eve held a.result.at (state_of a.new.buf a.result.cut)
+      turn = eat-open c.args.chunk.now c.args.from eve held a.result.at (state_of a.new.buf a.result.cut)
           (sym c.if-a.false ∙ a.ensures.ate_so.done) a.ensures.ate_so.place a.ensures.ate_so.held;
-      fit_2 = (
+      fits = (
         record { few = f.few; room = f.room; held = a.ensures.at_in_bounds.1; stands = f.stands },
-        eat-more c.args.chunk.now c.args.from held a.result.at a.ensures.ate_so.place c.requires.counts_len.2,
+        eat-more c.args.chunk.now c.args.from held a.result.at a.ensures.ate_so.place c.requires.lengths.2,
         a.ensures.at_in_bounds.0,
         grown-none c.args.s.used c.args.out.now,
       );

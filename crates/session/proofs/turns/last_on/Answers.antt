@@ -9,18 +9,18 @@ use native.Mathlib.Omega.{arith}
 use Rattle.session.proofs.turns.last_on.Goals as goal
 
 pub line_on-requires : goal.line_on-requires
-line_on-requires c = record { fit = (c.requires.fit.0, c.requires.fit.1); counts_len = (c.requires.counts_len.0, omega (arith, c.requires.fit.0.held, c.requires.counts_len.1), c.requires.counts_len.2) }
+line_on-requires c = record { fit = (c.requires.fit.0, c.requires.fit.1); lengths = (c.requires.lengths.0, omega (arith, c.requires.fit.0.held, c.requires.lengths.1), c.requires.lengths.2) }
 
 pub returns-then-c-gt0 : goal.returns-then-c-gt0
 returns-then-c-gt0 c = let r = c.line_on in
     let t : Tables = tables c.args.accounts.now c.args.counters.now c.args.pays.now in record {
-      out_after = r.ensures.out_after ∙ last_line c.args.s t c.args.out.now c.args.buf.now c.if-c-gt0.true (omega (arith, c.requires.fit.0.held, c.requires.counts_len.1));
-      fit_2 = (
-        r.ensures.fit_2.0,
-        r.ensures.fit_2.1,
+      out_after = r.ensures.out_after ∙ last_line c.args.s t c.args.out.now c.args.buf.now c.if-c-gt0.true (omega (arith, c.requires.fit.0.held, c.requires.lengths.1));
+      fits = (
+        r.ensures.fits.0,
+        r.ensures.fits.1,
         fewer_bytes r.result.stage c.args.s.stage 0 c.args.s.cut.held c.if-c-gt0.true c.requires.fit.1
             c.requires.fit.2,
-        r.ensures.fit_2.2,
+        r.ensures.fits.2,
       );
     }
 
@@ -29,7 +29,7 @@ returns c = let r = c.stop in
     let t : Tables = tables c.args.accounts.now c.args.counters.now c.args.pays.now in record {
       out_after = stopped-at c.args.s t c.args.out.now 0 r.result _ r.ensures.0 r.ensures.1
           ∙ last_none c.args.s t c.args.out.now c.args.buf.now (omega arith);
-      fit_2 = (
+      fits = (
         fit-over c.args.s t (length c.args.out.now) r.result c.requires.fit.0 r.ensures.0 r.ensures.2,
         ap (λ (x : State). x.cut)
             r.ensures.0,
