@@ -8,24 +8,23 @@ use Rattle.tables.specs.Layout.{Tables}
 use Rattle.tables.specs.State.{is_state}
 use Rattle.tables.specs.Holds.{Holds}
 use Rattle.tables.proofs.States.{state-holds, holds-state}
-use Rattle.answers.specs.Codes.{test, first}
+use Rattle.std.specs.Prelude.{Ok, Err}
+use Rattle.answers.specs.Codes.{test, first, Judged}
 use Rattle.answers.specs.Outcome.{Outcome, outcome, Act, decided, held, judgement, called}
 use Rattle.answers.proofs.Judging.{first_fine}
 use Rattle.answers.specs.declared.Refusal.{Refusal}
 use Rattle.answers.specs.declared.Refusal.TheVariants.{State}
-use Rattle.answers.specs.declared.Judged.{Judged}
-use Rattle.answers.specs.declared.Judged.TheVariants.{Fine, Bad}
 
 module _ {A : Type 0} (k : Act A) (T : Tables) where
   -- ---- on a state
 
   -- a request in which nothing is wrong is done,
-  pub held-fine : first (k.tests T) ≡ Fine → held k T ≡ k.does T
+  pub held-fine : first (k.tests T) ≡ Ok tt → held k T ≡ k.does T
   unfolding held
   held-fine e = ap (decided k T) e
 
   -- and one with a code is refused
-  pub held-bad : {r : Refusal} → first (k.tests T) ≡ Bad r → held k T ≡ outcome (k.refuse r) T
+  pub held-bad : {r : Refusal} → first (k.tests T) ≡ Err r → held k T ≡ outcome (k.refuse r) T
   unfolding held
   held-bad e = ap (decided k T) e
 
@@ -42,7 +41,7 @@ module _ {A : Type 0} (k : Act A) (T : Tables) where
   called-none e = rw e
 
   -- a judgement that found nothing was made on a state,
-  pub judgement-fine : judgement k T ≡ Fine → Holds T × (first (k.tests T) ≡ Fine)
+  pub judgement-fine : judgement k T ≡ Ok tt → Holds T × (first (k.tests T) ≡ Ok tt)
   judgement-fine e = let f = first_fine (test (not (is_state T)) State ∷ k.tests T) e in
       (state-holds (not-false (is_state T) f.0), rw f.0 at e)
 
@@ -57,8 +56,8 @@ unfolding held
 held_same k l T e f g = go (first (k.tests T)) ∙ ap (decided l T) g
   where
     go : (j : Judged) → decided k T j ≡ decided l T j
-    go Fine = f
-    go (Bad r) = ap (λ a. outcome a T) (e r)
+    go (Ok u) = f
+    go (Err r) = ap (λ a. outcome a T) (e r)
 
 -- an equal answer has the same outcome
 pub answer-is : {A : Type 0} {r s : A} {W : Tables} {u : Outcome A} → r ≡ s → outcome r W ≡ u → outcome s W ≡ u
@@ -69,15 +68,15 @@ answer-is {W} e f = ap (λ a. outcome a W) (sym e) ∙ f
 module _ {A : Type 0} (k : Act A) (T : Tables) where
   -- a refusal changes nothing, where what is done is told apart from it,
   pub refusal-keeps : (j : Judged) {r : Refusal} → ((r : Refusal) → (k.does T).answer ≢ k.refuse r) → (decided k T j).answer ≡ k.refuse r → (decided k T j).after ≡ T
-  refusal-keeps Fine {r} apart e = absurd (apart r e)
-  refusal-keeps (Bad r) apart e = refl
+  refusal-keeps (Ok u) {r} apart e = absurd (apart r e)
+  refusal-keeps (Err r) apart e = refl
 
   -- an answer that is none says that the request was fine,
-  pub done-fine : (j : Judged) (u : Outcome A) → ((r : Refusal) → u.answer ≢ k.refuse r) → decided k T j ≡ u → j ≡ Fine
-  done-fine Fine u apart e = refl
-  done-fine (Bad r) u apart e = absurd (apart r (sym (ap (λ (v : Outcome A). v.answer) e)))
+  pub done-fine : (j : Judged) (u : Outcome A) → ((r : Refusal) → u.answer ≢ k.refuse r) → decided k T j ≡ u → j ≡ Ok tt
+  done-fine (Ok v) u apart e = refl
+  done-fine (Err r) u apart e = absurd (apart r (sym (ap (λ (v : Outcome A). v.answer) e)))
 
   -- and what holds of the tables before, and after what a fine request does, holds after the call: that they are a state, too
-  pub decided-keeps : (P : Tables → Type 0) (j : Judged) → P T → (j ≡ Fine → P (k.does T).after) → P (decided k T j).after
-  decided-keeps P Fine p f = f refl
-  decided-keeps P (Bad r) p f = p
+  pub decided-keeps : (P : Tables → Type 0) (j : Judged) → P T → (j ≡ Ok tt → P (k.does T).after) → P (decided k T j).after
+  decided-keeps P (Ok u) p f = f refl
+  decided-keeps P (Err r) p f = p

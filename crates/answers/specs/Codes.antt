@@ -1,11 +1,9 @@
 -- The codes of document 01, and the order in which they are judged: the first whose condition holds.
-use Rattle.std.specs.Prelude.{Bool, cond, ◌&&◌, List, [], ◌∷◌, ℕ, leb}
+use Rattle.std.specs.Prelude.{Bool, cond, ◌&&◌, List, [], ◌∷◌, ℕ, leb, Result, Ok, Err, ⊤}
 use Rattle.tables.specs.Sizes.{most_amount}
 use Rattle.tables.specs.Layout.{count_of}
 use Rattle.answers.specs.declared.Refusal.{Refusal}
 use Rattle.answers.specs.declared.Refusal.TheVariants.{State, Member, Same, Amount, Number, Full, Money, Nothing, Cover, Counts, Opening, Line, Room}
-use Rattle.answers.specs.declared.Judged.{Judged}
-use Rattle.answers.specs.declared.Judged.TheVariants.{Fine, Bad}
 
 -- the paper's number of each refusal
 abbrev pub code_of : Refusal → ℕ
@@ -31,10 +29,14 @@ pub record Test : Type 0 where
 abbrev pub test : Bool → Refusal → Test
 test b r = record { when = b; code = r }
 
+-- what a request is judged to be: fine, or refused by a code
+abbrev pub Judged : Type 0
+Judged = Result ⊤ Refusal
+
 -- the first code whose condition holds
 abbrev pub first : List Test → Judged
-first [] = Fine
-first (t ∷ ts) = cond t.when (Bad t.code) (first ts)
+first [] = Ok tt
+first (t ∷ ts) = cond t.when (Err t.code) (first ts)
 
 -- ---- conditions that several calls judge
 

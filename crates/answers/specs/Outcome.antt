@@ -1,12 +1,10 @@
 -- What a call is, and what it does: its answer, and the tables after it.
-use Rattle.std.specs.Prelude.{not, List, ◌∷◌}
+use Rattle.std.specs.Prelude.{not, List, ◌∷◌, Ok, Err}
 use Rattle.tables.specs.Layout.{Tables}
 use Rattle.tables.specs.State.{is_state}
-use Rattle.answers.specs.Codes.{Test, test, first}
+use Rattle.answers.specs.Codes.{Test, test, first, Judged}
 use Rattle.answers.specs.declared.Refusal.{Refusal}
 use Rattle.answers.specs.declared.Refusal.TheVariants.{State}
-use Rattle.answers.specs.declared.Judged.{Judged}
-use Rattle.answers.specs.declared.Judged.TheVariants.{Fine, Bad}
 
 pub record Outcome (A : Type 0) : Type 0 where
   pub answer : A
@@ -23,8 +21,8 @@ pub record Act (A : Type 0) : Type 0 where
 
 -- judged so: a refusal changes nothing
 abbrev pub decided : {A : Type 0} → Act A → Tables → Judged → Outcome A
-decided k T Fine = k.does T
-decided k T (Bad r) = outcome (k.refuse r) T
+decided k T (Ok u) = k.does T
+decided k T (Err r) = outcome (k.refuse r) T
 
 -- on tables that hold a state
 unfoldable pub held : {A : Type 0} → Act A → Tables → Outcome A

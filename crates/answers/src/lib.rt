@@ -1,4 +1,4 @@
-// The answers of the calls and their codes, and the conditions that several calls judge.
+// The answers of the calls and their codes, and the conditions that several calls judge. A call answers what it did, or why it is refused.
 #![tactic(auto)]
 
 ghost use Rattle.std.specs.Prelude.{◌≡◌};
@@ -8,7 +8,7 @@ ghost use Rattle.answers.specs.Verdicts.{verdict_number};
 pub mod judge;
 
 // Why a call is refused.
-#[derive(Drop)]
+#[derive(Clone, Copy, Debug, PartialEq, Eq)]
 pub enum Refusal {
     // The lent tables are too short, or hold no state.
     State,
@@ -38,50 +38,46 @@ pub enum Refusal {
     Room,
 }
 
-// What a request is judged to be.
-#[derive(Drop)]
-pub enum Judged {
-    Fine,
-    Bad(Refusal),
+impl From<Refusal> for u32 {
+    // The paper's number of a refusal.
+    ghost from_gives = { λ r n. n ≡ code_of r };
+
+    fn from(r: Refusal) -> u32 {
+        match r {
+            Refusal::State => 1,
+            Refusal::Member => 2,
+            Refusal::Same => 3,
+            Refusal::Amount => 4,
+            Refusal::Number => 5,
+            Refusal::Full => 6,
+            Refusal::Money => 7,
+            Refusal::Nothing => 8,
+            Refusal::Cover => 9,
+            Refusal::Counts => 10,
+            Refusal::Opening => 11,
+            Refusal::Line => 12,
+            Refusal::Room => 13,
+        }
+    }
 }
 
-// The answer of an opening: the sum of balances.
-#[derive(Drop)]
-pub enum Opened {
-    Done(i64),
-    Refused(Refusal),
+// What a release did: it settled this payment of the payer.
+#[derive(Clone, Copy, Debug, PartialEq, Eq)]
+pub struct Released {
+    pub payer: u64,
+    pub number: u64,
+    pub amount: u64,
 }
 
-// The answer of a deposit: the new balance.
-#[derive(Drop)]
-pub enum Deposited {
-    Done(i64),
-    Refused(Refusal),
-}
-
-// The answer of a submission.
-#[derive(Drop)]
-pub enum Submitted {
-    Done,
-    Refused(Refusal),
-}
-
-// The answer of a release: payer, number and amount.
-#[derive(Drop)]
-pub enum Released {
-    Done(u64, u64, u64),
-    Refused(Refusal),
-}
-
-// The answer of a group: how many payments, and their sum.
-#[derive(Drop)]
-pub enum Grouped {
-    Done(u64, u64),
-    Refused(Refusal),
+// What a group did: it settled so many payments, of this sum.
+#[derive(Clone, Copy, Debug, PartialEq, Eq)]
+pub struct Grouped {
+    pub payments: u64,
+    pub sum: u64,
 }
 
 // What a resolution found the queue to be.
-#[derive(Drop)]
+#[derive(Clone, Copy, Debug, PartialEq, Eq)]
 pub enum Verdict {
     // Nothing waited.
     Empty,
@@ -93,51 +89,25 @@ pub enum Verdict {
     Deadlocked,
 }
 
-// What is told of a resolution: the verdict, how many payments, their sum, and the set of members with payments still waiting.
-#[derive(Drop)]
+impl From<Verdict> for u64 {
+    // The paper's number of a verdict.
+    ghost from_gives = { λ v n. n ≡ verdict_number v };
+
+    fn from(v: Verdict) -> u64 {
+        match v {
+            Verdict::Empty => 0,
+            Verdict::Full => 1,
+            Verdict::Partial => 2,
+            Verdict::Deadlocked => 3,
+        }
+    }
+}
+
+// What a resolution did: the verdict, how many payments it settled, their sum, and the set of members with payments still waiting.
+#[derive(Clone, Copy, Debug, PartialEq, Eq)]
 pub struct Resolution {
     pub verdict: Verdict,
     pub payments: u64,
     pub sum: u64,
     pub waiting: u64,
-}
-
-// The answer of a resolution.
-#[derive(Drop)]
-pub enum Resolved {
-    Done(Resolution),
-    Refused(Refusal),
-}
-
-// The paper's number of a refusal.
-pub fn code(r: Refusal) -> u32
-    ensures { result ≡ code_of r }
-{
-    match r {
-        Refusal::State => 1,
-        Refusal::Member => 2,
-        Refusal::Same => 3,
-        Refusal::Amount => 4,
-        Refusal::Number => 5,
-        Refusal::Full => 6,
-        Refusal::Money => 7,
-        Refusal::Nothing => 8,
-        Refusal::Cover => 9,
-        Refusal::Counts => 10,
-        Refusal::Opening => 11,
-        Refusal::Line => 12,
-        Refusal::Room => 13,
-    }
-}
-
-// The paper's number of a verdict.
-pub fn number(v: Verdict) -> u64
-    ensures { result ≡ verdict_number v }
-{
-    match v {
-        Verdict::Empty => 0,
-        Verdict::Full => 1,
-        Verdict::Partial => 2,
-        Verdict::Deadlocked => 3,
-    }
 }

@@ -1,18 +1,17 @@
 -- What a state and counts within its queues give: the steps of a booking can be taken, and lead to the booked lists.
 use mathlib.Core.Path.{◌≡◌, sym, ap, ◌∙◌, subst}
-use mathlib.Core.List.{List}
+use mathlib.Core.List.{List, ◌++◌}
 use Prim.Native.Nat.{ℕ, zero, suc, ◌+◌, ◌≤◌, ◌<◌}
 use native.Mathlib.Decide.{ℕ_discrete}
 use native.Mathlib.Omega.{arith}
 use lib.IntN.{ℤ, pos}
-use lib.ListN.{length, get_or, length-take}
-use Rattle.rule.specs.Lists.{fill}
+use lib.ListN.{length, get_or, drop, length-take}
+use lib.Seq.{length-take-le}
 use Rattle.rule.specs.Kernel.{Counts, sum}
 use Rattle.rule.specs.Payment.{amount_of}
 use Rattle.rule.specs.Queue.{total}
 use Rattle.rule.specs.House.{waits, sent, position}
 use Rattle.rule.specs.Table.{leaving, staying}
-use Rattle.rule.proofs.Lists.{fill-cong}
 use Rattle.rule.proofs.Sums.{sum_mono}
 use Rattle.rule.proofs.Table.{all-leaving}
 use Rattle.tables.specs.Sizes.{members, places, last_number}
@@ -20,7 +19,8 @@ use Rattle.tables.specs.Layout.{Tables, members_in, waiting_in, words_in, house_
 use Rattle.tables.specs.Holds.{Holds}
 use Rattle.tables.proofs.Houses.{holds-payers, no-queue, waiting-sum}
 use Rattle.booking.specs.Booking.{listed, booked_in, Counted, Weighed}
-use Rattle.booking.specs.Steps.{closed_up, Words, Countable}
+use Rattle.booking.specs.Steps.{closed_up, Countable}
+use Rattle.booking.proofs.Filling.{front-fill}
 use Rattle.booking.proofs.Staying.{staying-short, closed-fill}
 
 -- a sum goes no further than its last count that is not 0
@@ -32,15 +32,12 @@ sum-rest (suc m) n z h f = elim (ℕ_discrete n (suc m)) [
 ]
 
 module _ {T : Tables} (h : Holds T) where
-  -- the waiting payments are there,
-  pub holds-words : Words (waiting_in T) T.pays
-  holds-words = record { deep = omega arith; few = h.counters.room; small = λ k l. omega (arith, (h.places.words k l).small) }
-
   -- those that stay fill the places,
-  pub closed-booked : (z : Counts) → closed_up (waiting_in T) (staying z (words_in T)) T.pays ≡ (booked_in T z).pays
+  pub closed-booked : (z : Counts) → closed_up (length (words_in T)) (staying z (words_in T)) ++ drop (waiting_in T) T.pays ≡ (booked_in T z).pays
   unfolding booked_in
   closed-booked z =
-      closed-fill (waiting_in T) (staying z (words_in T)) T.pays (omega (arith, staying-short (words_in T) z, length-take (waiting_in T) T.pays))
+      ap (λ k. closed_up k (staying z (words_in T)) ++ drop (waiting_in T) T.pays) (length-take-le (waiting_in T) T.pays (omega (arith, h.counters.room, h.places.deep)))
+      ∙ closed-fill (waiting_in T) (staying z (words_in T)) T.pays (omega (arith, staying-short (words_in T) z, length-take (waiting_in T) T.pays))
       (omega arith) places h.counters.room h.places.deep h.places.no_payment
 
   -- and the amounts of those that leave are what the members send
@@ -60,10 +57,7 @@ countable {T} {counts} g fits = let h = g.holds in record {
   waits = subst (λ k. sum members (listed counts) ≤ k) (waiting-all h) (sum_mono members (listed counts) (waits (house_in T)) g.within);
 }
 
--- the positions, stored, are the booked balances
-pub positions-booked : {T : Tables} {counts : List ℕ} {xs : List ℤ} → Holds T → Weighed T counts xs
-    → fill members (λ i. get_or xs i (pos 0)) T.accounts ≡ (booked_in T (listed counts)).accounts
+-- the positions, in the place of the balances, are the booked ones
+pub positions-booked : {T : Tables} {counts : List ℕ} {xs : List ℤ} → Weighed T counts xs → xs ++ drop members T.accounts ≡ (booked_in T (listed counts)).accounts
 unfolding booked_in
-positions-booked {T} {counts} {xs} h w =
-    fill-cong (λ i. get_or xs i (pos 0)) (position (members_in T) (house_in T) (listed counts)) T.accounts members (omega (arith, h.accounts.long))
-    w.weighs (pos 0)
+positions-booked {T} {counts} {xs} w = front-fill (pos 0) members (position (members_in T) (house_in T) (listed counts)) xs T.accounts w.members w.weighs

@@ -1,6 +1,6 @@
 -- Who is not below minus its line is covered, and who is is not; and the members who are covered at the positions of a set are those whom the rule has.
-use mathlib.Core.Path.{◌≡◌, refl, ap, ◌∙◌}
-use mathlib.Core.Bool.{Bool, true, false}
+use mathlib.Core.Path.{◌≡◌, refl, sym, ap, ◌∙◌}
+use mathlib.Core.Bool.{Bool, true, false, not}
 use mathlib.Core.List.{List}
 use Prim.Native.Nat.{ℕ, zero, suc, ◌<◌}
 use native.Mathlib.Omega.{arith}
@@ -15,13 +15,13 @@ use Rattle.tables.specs.Holds.{Holds}
 use Rattle.tables.proofs.Houses.{line-is}
 use Rattle.booking.specs.Booking.{listed, covered_at, covered_all, Weighed}
 
--- a position x that is not below minus the line l is covered,
-pub not_short : (x l : ℤ) → lt_z x (pos 0 -ℤ l) ≡ false → le_z (pos 0) (x +ℤ l) ≡ true
-not_short x l e = true-le_z (pos 0) (x +ℤ l) (omega (arith, lt_z-false x (pos 0 -ℤ l) e, plus x l, minus (pos 0) l))
-
--- and one that is below is not
-pub short : (x l : ℤ) → lt_z x (pos 0 -ℤ l) ≡ true → le_z (pos 0) (x +ℤ l) ≡ false
-short x l e = false-le_z (pos 0) (x +ℤ l) (omega (arith, lt_z-true x (pos 0 -ℤ l) e, plus x l, minus (pos 0) l))
+-- a position x that is not below minus the line l is covered, and one that is below is not
+pub covered-not : (x l : ℤ) → not (lt_z x (pos 0 -ℤ l)) ≡ le_z (pos 0) (x +ℤ l)
+covered-not x l = go (lt_z x (pos 0 -ℤ l)) refl
+  where
+    go : (b : Bool) → lt_z x (pos 0 -ℤ l) ≡ b → not b ≡ le_z (pos 0) (x +ℤ l)
+    go true e = sym (false-le_z (pos 0) (x +ℤ l) (omega (arith, lt_z-true x (pos 0 -ℤ l) e, plus x l, minus (pos 0) l)))
+    go false e = sym (true-le_z (pos 0) (x +ℤ l) (omega (arith, lt_z-false x (pos 0 -ℤ l) e, plus x l, minus (pos 0) l)))
 
 every-same : (f g : ℕ → Bool) (n : ℕ) → ((i : ℕ) → i < n → f i ≡ g i) → every f n ≡ every g n
 unfolding every

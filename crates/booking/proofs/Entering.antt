@@ -1,14 +1,13 @@
 -- Payments entered one after the other take each position to where the rule says, and a pass enters those that leave.
 use mathlib.Core.Path.{◌≡◌, refl, sym, ap, ◌∙◌}
 use mathlib.Core.Bool.{Bool, true, false, cond}
-use mathlib.Core.Logic.{◌≢◌}
 use mathlib.Core.List.{List, [], ◌∷◌}
-use Prim.Native.Nat.{ℕ, ◌+◌, ◌*◌, ◌-◌, ◌≤◌, ◌<◌}
+use Prim.Native.Nat.{ℕ, ◌+◌, ◌*◌, ◌≤◌, ◌<◌}
 use native.Mathlib.Omega.{arith}
 use lib.Dec.{eqb}
 use lib.IntN.{ℤ, pos, negsuc, ◌+ℤ◌, ◌-ℤ◌}
-use lib.ListN.{length, get_or, set, take, drop, length-set}
-use Rattle.rule.specs.Kernel.{sum}
+use lib.ListN.{length, get_or, drop, length-take, length-set}
+use lib.Seq.{get_or-take}
 use Rattle.rule.specs.Payment.{payer_of, payee_of, amount_of, amount_to}
 use Rattle.rule.specs.Queue.{total}
 use Rattle.rule.specs.Table.{queue_of, leaving}
@@ -16,16 +15,17 @@ use Rattle.rule.proofs.Ints.{plus, minus, eq_of}
 use Rattle.rule.proofs.Table.{sent-leaving, received-leaving}
 use Rattle.tables.specs.Sizes.{members}
 use Rattle.tables.specs.Layout.{Tables, members_in, waiting_in, words_in, house_in, balance_of}
+use Rattle.tables.specs.Holds.{Holds}
 use Rattle.tables.specs.Needs.{Near}
 use Rattle.tables.proofs.Balances.{accounts-near}
 use Rattle.tables.proofs.Houses.{holds-payers}
 use Rattle.finder.specs.Limits.{far, far_amount, far_balance}
-use Rattle.finder.specs.Positions.{moved, Steady, Entering}
+use Rattle.finder.specs.Positions.{moved, Entering}
 use Rattle.finder.proofs.Tops.{payer-under, payee-under}
 use Rattle.finder.proofs.Positions.{moved_at, moved-far}
 use Rattle.booking.specs.Booking.{listed, Counted, Weighed}
-use Rattle.booking.specs.Steps.{entered, Ends}
-use Rattle.booking.proofs.Passing.{drop-turn, leaving-none, leaving-one, one-of-more, one_fewer, none-leaves}
+use Rattle.booking.specs.Steps.{entered, Words, Passes}
+use Rattle.booking.proofs.Passing.{drop-turn}
 
 -- ---- where the entered payments take each position
 
@@ -73,6 +73,21 @@ pub entered-length : (xs : List ℤ) (ws : List ℕ) → length (entered xs ws) 
 entered-length xs [] = refl
 entered-length xs (w ∷ ws) = entered-length (moved xs (payer_of w) (payee_of w) (amount_of w)) ws ∙ simp length-set
 
+-- a balance is far enough from the limits
+pub near-far : (z : ℤ) → Near far_balance z → far z ≤ far_balance
+near-far (pos n) h = omega arith
+near-far (negsuc n) h = omega arith
+
+-- the waiting payments' amounts are in range
+pub words-waiting : {T : Tables} → Holds T → Words (length (words_in T)) (words_in T)
+words-waiting {T} h = record {
+  deep = omega arith;
+  few = omega (arith, length-take (waiting_in T) T.pays, h.counters.room);
+  small = λ k l.
+      let q : k < waiting_in T = omega (arith, length-take (waiting_in T) T.pays) in
+      rw (get_or-take (waiting_in T) T.pays k 0 q) (omega (arith, (h.places.words k q).small));
+}
+
 module _ {T : Tables} {counts : List ℕ} (g : Counted T counts) (bs : List ℤ) (each : length bs ≡ members)
     (same : (i : ℕ) → i < members → get_or bs i (pos 0) ≡ balance_of T.accounts i) where
   -- the counted payments, entered into the balances, lead to the positions of the rule
@@ -87,10 +102,6 @@ module _ {T : Tables} {counts : List ℕ} (g : Counted T counts) (bs : List ℤ)
         );
   }
 
-  near-far : (z : ℤ) → Near far_balance z → far z ≤ far_balance
-  near-far (pos n) h = omega arith
-  near-far (negsuc n) h = omega arith
-
   -- and can be entered into them
   pub can-enter : Entering (waiting_in T) T.pays bs
   can-enter = let h = g.holds in record {
@@ -101,59 +112,36 @@ module _ {T : Tables} {counts : List ℕ} (g : Counted T counts) (bs : List ℤ)
     near = λ i l. rw (same i l) (near-far (balance_of T.accounts i) (accounts-near h.accounts i l));
   }
 
+  -- and the waiting payments alone can
+  pub can-enter-waiting : Entering (length (words_in T)) (words_in T) bs
+  can-enter-waiting = let w = words-waiting g.holds in record { places = w.deep; few = w.few; each = each; small = w.small; near = can-enter.near }
+
 -- ---- the pass
 
--- before place i, with `more` still to leave: what is entered, with what is still to be entered, is all that leaves; each turn takes a position
--- at most an amount further
-pub record Underway (used : ℕ) (p : List ℕ) (xs₀ : List ℤ) (l₀ : List ℕ) (xs : List ℤ) (l : List ℕ) (more i : ℕ) : Type 0 where
-  pub within : i ≤ used
+-- before place i: what is entered, with what is still to be entered, is all that leaves; each turn takes a position at most an amount further
+pub record Underway (p : List ℕ) (xs₀ : List ℤ) (l₀ : List ℕ) (xs : List ℤ) (l : List ℕ) (i : ℕ) : Type 0 where
   pub each : length xs ≡ members
-  pub still : more ≡ sum (length l) (listed l)
-  pub left : entered xs (leaving (listed l) (drop i (take used p))) ≡ entered xs₀ (leaving (listed l₀) (take used p))
+  pub left : entered xs (leaving (listed l) (drop i p)) ≡ entered xs₀ (leaving (listed l₀) p)
   pub near : (k : ℕ) → k < members → far (get_or xs k (pos 0)) ≤ far_balance + far_amount * i
-  pub members : length l ≡ members
 
--- the pass starts,
-pub underway-start : {used more : ℕ} {p : List ℕ} {xs : List ℤ} (l : List ℕ) → Entering used p xs → length l ≡ members → more ≡ sum (length l) (listed l)
-    → Underway used p xs l xs l more 0
-underway-start l g h e = record { within = omega arith; each = g.each; members = h; still = e; left = refl; near = λ k q. omega (arith, g.near k q) }
+module _ {i : ℕ} {p l₀ l : List ℕ} {xs₀ xs : List ℤ} (g : Entering (length p) p xs₀) (h : i < length p) (u : Underway p xs₀ l₀ xs l i) where
+  turn : entered xs (leaving (listed l) (get_or p i 0 ∷ drop (i + 1) p)) ≡ entered xs₀ (leaving (listed l₀) p)
+  turn = ap (λ ws. entered xs (leaving (listed l) ws)) (sym (drop-turn p i h)) ∙ u.left
 
-module _ {used more i : ℕ} {p l₀ l : List ℕ} {xs₀ xs : List ℤ} (g : Entering used p xs₀) (h : i < used) (u : Underway used p xs₀ l₀ xs l more i) where
-  -- has room for one more,
-  pub underway-steady : Steady xs
-  underway-steady = record { each = u.each; near = λ k q. omega (arith, u.near k q, g.few) }
-
-  turn : entered xs (leaving (listed l) (get_or p i 0 ∷ drop (i + 1) (take used p))) ≡ entered xs₀ (leaving (listed l₀) (take used p))
-  turn = ap (λ ws. entered xs (leaving (listed l) ws)) (sym (drop-turn used p i h g.places)) ∙ u.left
-
-  -- passes a payment that stays,
-  pub underway-stay : get_or l (payer_of (get_or p i 0)) 0 ≡ 0 → Underway used p xs₀ l₀ xs l more (i + 1)
-  underway-stay e = record {
-    within = omega arith;
+  -- the pass goes by a payment that stays,
+  pub underway-stay : (k : List ℕ) → Passes (get_or p i 0) l k false → Underway p xs₀ l₀ xs k (i + 1)
+  underway-stay k e = record {
     each = u.each;
-    members = u.members;
-    still = u.still;
-    left = ap (λ ws. entered xs ws) (sym (leaving-none (listed l) (get_or p i 0) (drop (i + 1) (take used p)) e)) ∙ turn;
+    left = ap (λ ws. entered xs ws) (sym (e.gone (drop (i + 1) p))) ∙ turn;
     near = λ k q. omega (arith, u.near k q);
   }
 
-  seat : payer_of (get_or p i 0) < length l
-  seat = rw u.members (payer-under (get_or p i 0))
-
-  -- finds one that leaves among those still to leave,
-  pub underway-more : get_or l (payer_of (get_or p i 0)) 0 ≢ 0 → 1 ≤ more
-  underway-more e = one-of-more l (get_or p i 0) seat e u.still
-
-  -- enters it,
-  pub underway-leave : get_or l (payer_of (get_or p i 0)) 0 ≢ 0
-      → Underway used p xs₀ l₀ (moved xs (payer_of (get_or p i 0)) (payee_of (get_or p i 0)) (amount_of (get_or p i 0)))
-      (set l (payer_of (get_or p i 0)) (get_or l (payer_of (get_or p i 0)) 0 - 1)) (more - 1) (i + 1)
-  underway-leave e = record {
-    within = omega arith;
+  -- enters one that leaves,
+  pub underway-leave : (k : List ℕ) → Passes (get_or p i 0) l k true
+      → Underway p xs₀ l₀ (moved xs (payer_of (get_or p i 0)) (payee_of (get_or p i 0)) (amount_of (get_or p i 0))) k (i + 1)
+  underway-leave k e = record {
     each = simp length-set u.each;
-    members = simp length-set u.members;
-    still = one_fewer l (get_or p i 0) seat e u.still;
-    left = ap (λ ws. entered xs ws) (sym (leaving-one l (get_or p i 0) (drop (i + 1) (take used p)) seat e)) ∙ turn;
+    left = ap (λ ws. entered xs ws) (sym (e.gone (drop (i + 1) p))) ∙ turn;
     near = λ k q. omega (
       arith,
       u.near k q,
@@ -163,7 +151,7 @@ module _ {used more i : ℕ} {p l₀ l : List ℕ} {xs₀ xs : List ℤ} (g : En
     );
   }
 
--- and has entered all at its end
-pub underway-end : {used more end i : ℕ} {p l₀ l : List ℕ} {xs₀ xs : List ℤ} → Underway used p xs₀ l₀ xs l more i → Ends used more end → end ≤ i
-    → xs ≡ entered xs₀ (leaving (listed l₀) (take used p))
-underway-end {i} {p} {l} {xs} u g h = ap (λ ws. entered xs ws) (sym (none-leaves p l i u.members u.still g h)) ∙ u.left
+-- and has entered all where none is left to leave
+pub underway-end : {i : ℕ} {p l₀ l : List ℕ} {xs₀ xs : List ℤ} → Underway p xs₀ l₀ xs l i → leaving (listed l) (drop i p) ≡ []
+    → xs ≡ entered xs₀ (leaving (listed l₀) p)
+underway-end {xs} u e = ap (λ ws. entered xs ws) (sym e) ∙ u.left

@@ -1,36 +1,41 @@
 -- One member's head alone: where it stands, what leaves, what stays, and the tables with it booked.
 use mathlib.Core.Path.{◌≡◌, refl, sym, ap, ◌∙◌}
 use mathlib.Core.Logic.{◌≢◌}
-use mathlib.Core.List.{List, [], ◌∷◌, ◌++◌}
+use mathlib.Core.List.{List, [], ◌∷◌, ◌++◌, append_assoc}
 use Prim.Native.Nat.{ℕ, zero, suc, ◌+◌, ◌-◌, ◌≤◌, ◌<◌}
 use native.Mathlib.Decide.{ℕ_discrete, dec_lt}
 use native.Mathlib.Omega.{arith}
-use borrow.Author.Tests.{eq-eqb, ne_eqb}
-use lib.IntN.{ℤ, pos, negsuc}
-use lib.ListN.{length, get_or, set, take, drop, replicate, length-take, length-drop, length-set, length-append, take-append-drop, get_or-append}
-use lib.Seq.{ext_get_or, get_or-take, get_or-drop, get_or-set_same, get_or-set_other, length-take-le, drop-drop, get_or-append-add}
+use Rattle.std.proofs.Common.{Some, eqb}
+use mathlib.Core.Bool.{Bool, true, false, cond, not}
+use Rattle.std.specs.Option.{IsSome}
+use Rattle.std.specs.List.{position_or_len}
+use Rattle.std.specs.List.{position as first_place}
+use Rattle.std.proofs.lemmas.List.{drop-take}
+use Rattle.std.proofs.lemmas.List.Quantifiers.{position-Some}
+use borrow.Author.Tests.{eq-eqb, ne_eqb, eqb-true, eqb-false, lt-ltb}
+use lib.IntN.{ℤ, pos}
+use lib.ListN.{length, get_or, set, take, drop, replicate, length-take, length-drop, length-set, length-append, take-append-drop}
+use lib.Seq.{ext_get_or, get_or-take, get_or-set_same, get_or-set_other, length-take-le, take-take, drop-drop}
 use Rattle.rule.specs.Lists.{fill_at}
 use Rattle.rule.specs.Kernel.{Counts, none, put, sum}
 use Rattle.rule.specs.Payment.{payer_of, payee_of, amount_of}
 use Rattle.rule.specs.House.{position}
 use Rattle.rule.specs.Table.{queue_of, leaving, staying}
-use Rattle.rule.proofs.Lists.{is-fill, fill-at-length, before-fill, in-fill, past-fill}
+use Rattle.rule.proofs.Lists.{fill-at-length, before-fill, in-fill, past-fill}
 use Rattle.rule.proofs.Sums.{sum_one, sum-zero}
 use Rattle.rule.proofs.Find.{put-at, put_other, put_all}
 use Rattle.rule.proofs.Table.{sent-leaving, received-leaving}
 use Rattle.tables.specs.Sizes.{members, table}
 use Rattle.tables.specs.Layout.{Tables, members_in, waiting_in, words_in, house_in, settled_at, waiting_of, last_of, settled_of, balance_of}
 use Rattle.tables.specs.Holds.{Holds}
-use Rattle.tables.specs.Needs.{Near}
 use Rattle.tables.proofs.Houses.{holds-payers}
 use Rattle.tables.proofs.Balances.{accounts-near}
-use Rattle.finder.specs.Limits.{far, far_balance, far_position}
 use Rattle.finder.specs.Positions.{moved, Steady}
 use Rattle.booking.specs.Booking.{head_alone, counters_booked, booked_in, HeadAt}
-use Rattle.booking.specs.Steps.{entered, closed_up, FirstOf}
+use Rattle.booking.specs.Steps.{entered, closed_up}
 use Rattle.booking.proofs.Passing.{drop-turn, leaving-none, staying-none, all_stay}
-use Rattle.booking.proofs.Closing.{cut_out, regroup}
-use Rattle.booking.proofs.Entering.{entered_at}
+use Rattle.booking.proofs.Filling.{front-fill}
+use Rattle.booking.proofs.Entering.{entered_at, near-far}
 use Rattle.booking.proofs.Booked.{closed-booked}
 
 -- ---- looking for it
@@ -39,63 +44,30 @@ use Rattle.booking.proofs.Booked.{closed-booked}
 abbrev pub Others : ℕ → List ℕ → Type 0
 Others i ws = (j : ℕ) → j < length ws → payer_of (get_or ws j 0) ≢ i
 
--- none of those before place k is
-pub record Passed (i : ℕ) (p : List ℕ) (k : ℕ) : Type 0 where
-  pub others : (j : ℕ) → j < k → payer_of (get_or p j 0) ≢ i
+-- where i pays one, there is a first,
+pays-one : (i : ℕ) (ws : List ℕ) → 0 < length (queue_of i ws) → position_or_len (λ w. eqb (payer_of w) i) ws < length ws
+pays-one i [] h = absurd (omega arith)
+pays-one i (w ∷ ws) h = go (eqb (payer_of w) i) (pays-one i ws) h
+  where
+    go : (b : Bool) → (0 < length (queue_of i ws) → position_or_len (λ w. eqb (payer_of w) i) ws < length ws)
+        → 0 < length (cond b (w ∷ queue_of i ws) (queue_of i ws)) → cond (not b) (1 + position_or_len (λ w. eqb (payer_of w) i) ws) 0 < suc (length ws)
+    go true ih h = omega arith
+    go false ih h = omega (arith, ih h)
 
--- at first none is passed,
-pub passed_none : (i : ℕ) (p : List ℕ) → Passed i p 0
-passed_none i p = record { others = λ j q. absurd (omega arith) }
+-- which is found,
+pub head-found : (i : ℕ) (ws : List ℕ) → 0 < length (queue_of i ws) → IsSome (first_place (λ w. eqb (payer_of w) i) ws)
+head-found i ws h = rw (lt-ltb (position_or_len (λ w. eqb (payer_of w) i) ws) (length ws) (pays-one i ws h))
 
--- then one more,
-pub passed-one : {i k : ℕ} {p : List ℕ} → Passed i p k → payer_of (get_or p k 0) ≢ i → Passed i p (k + 1)
-passed-one {k} f e = record {
-  others = λ j q. elim (ℕ_discrete j k) [
-    | yes r ↦ rw r e
-    | no r ↦ f.others j (omega arith)
-  ];
-}
-
-module _ {i at k : ℕ} {p : List ℕ} (n : ℕ) (f : Passed i p at) (g : FirstOf (take n (drop at p)) i k) where
-  here : (j : ℕ) → j < n → get_or (take n (drop at p)) j 0 ≡ get_or p (at + j) 0
-  here j q = get_or-take n (drop at p) j 0 q ∙ get_or-drop at p j 0
-
-  pub first-within : k ≤ n
-  first-within = omega (arith, g.within, length-take n (drop at p))
-
-  -- or a part up to its first payment of i,
-  pub passed-part : Passed i p (at + k)
-  passed-part = record {
-    others = λ j q. elim (dec_lt j at) [
-      | yes l ↦ f.others j l
-      | no l ↦
-          let e : at + (j - at) ≡ j = omega arith in
-          let r : j - at < n = omega (arith, first-within) in
-          rw (← e, ← here (j - at) r) (g.others (j - at) (omega arith))
-    ];
-  }
-
-  -- which is the head
-  pub head-found : (used : ℕ) → k < n → at + n ≤ used → used ≤ length p → HeadAt used p i (at + k)
-  head-found used q l h = record {
-    within = omega arith;
-    payer = sym (ap payer_of (here k q)) ∙ g.payer (omega (arith, length-take n (drop at p), length-drop at p));
-    others = passed-part.others;
-  }
-
-no-head : (i : ℕ) (xs : List ℕ) → Others i xs → queue_of i xs ≡ []
-no-head i [] f = refl
-no-head i (x ∷ xs) f = rw (ne_eqb (payer_of x) i (f 0 (omega arith))) (no-head i xs (λ j q. f (suc j) (omega arith)))
-
--- where something waits not all are passed
-pub not-all : {i k : ℕ} {p : List ℕ} (used : ℕ) → used ≤ length p → 0 < length (queue_of i (take used p)) → Passed i p k → k < used
-not-all {i} {k} {p} used h q f = elim (dec_lt k used) [
-  | yes l ↦ l
-  | no l ↦
-      let m = length-take-le used p h in
-      let e = no-head i (take used p) (λ j r. rw (get_or-take used p j 0 (omega (arith, m))) (f.others j (omega (arith, m)))) in
-      absurd (omega (arith, ap length e))
-]
+-- and is the head
+pub head-at : (used i k : ℕ) (p : List ℕ) → used ≤ length p → first_place (λ w. eqb (payer_of w) i) (take used p) ≡ Some k → HeadAt used p i k
+head-at used i k p h e =
+    let f = position-Some (λ w. eqb (payer_of w) i) (take used p) k 0 e in
+    let q : k < used = omega (arith, length-take used p) in
+    record {
+      within = q;
+      payer = eqb-true (payer_of (get_or p k 0)) i (rw (get_or-take used p k 0 q) at f.1);
+      others = λ j l. eqb-false (payer_of (get_or p j 0)) i (rw (get_or-take used p j 0 (omega arith)) at (f.2 j l));
+    }
 
 -- ---- what leaves, and what stays
 
@@ -135,18 +107,22 @@ module _ (i w : ℕ) (ys : List ℕ) (e : payer_of w ≡ i) where
       staying-none (head_alone i) x (xs ++ (w ∷ ys)) (put_other none i 1 (payer_of x) (f 0 (omega arith)))
       ∙ ap (λ r. x ∷ r) (head-stays xs (λ j q. f (suc j) (omega arith)))
 
+-- the places from i on, of the first n, are the first n - i of those from i on
+shifted : (p : List ℕ) (i n : ℕ) → i ≤ n → drop i (take n p) ≡ take (n - i) (drop i p)
+shifted p i n h = let f : n ≡ i + (n - i) = omega arith in ap (λ k. drop i (take k p)) f ∙ drop-take i (n - i) p
+
+cut_out : (p : List ℕ) (to gap n : ℕ) → to + gap ≤ n → drop gap (take (n - to) (drop to p)) ≡ drop (to + gap) (take n p)
+cut_out p to gap n h = ap (λ l. drop gap l) (sym (shifted p to n (omega arith))) ∙ drop-drop gap to (take n p)
+
+regroup : (a b z d : List ℕ) → a ++ ((b ++ z) ++ d) ≡ ((a ++ b) ++ z) ++ d
+regroup a b z d = simp append_assoc
+
 module _ {n i k : ℕ} {p : List ℕ} (deep : n ≤ length p) (h : HeadAt n p i k) where
   split : take n p ≡ take k p ++ (get_or p k 0 ∷ drop (k + 1) (take n p))
   split =
       sym (take-append-drop k (take n p))
-      ∙ ap (λ r. r ++ drop k (take n p)) (first k n p h.within)
-      ∙ ap (λ r. take k p ++ r) (drop-turn n p k h.within deep)
-    where
-      first : (k n : ℕ) (l : List ℕ) → k < n → take k (take n l) ≡ take k l
-      first zero n l q = refl
-      first (suc k) zero l q = absurd (omega arith)
-      first (suc k) (suc n) [] q = refl
-      first (suc k) (suc n) (x ∷ l) q = ap (λ r. x ∷ r) (first k n l (omega arith))
+      ∙ ap (λ r. r ++ drop k (take n p)) (take-take k n p (omega (arith, h.within)))
+      ∙ ap (λ r. take k p ++ r) (drop-turn (take n p) k (omega (arith, length-take-le n p deep, h.within)) ∙ ap (λ w. w ∷ drop (k + 1) (take n p)) (get_or-take n p k 0 h.within))
 
   before : Others i (take k p)
   before j q = rw (get_or-take k p j 0 (omega (arith, length-take k p))) (h.others j (omega (arith, length-take k p)))
@@ -160,7 +136,7 @@ module _ {n i k : ℕ} {p : List ℕ} (deep : n ≤ length p) (h : HeadAt n p i 
   head-kept : staying (head_alone i) (take n p) ≡ take k p ++ drop (k + 1) (take n p)
   head-kept = ap (staying (head_alone i)) split ∙ head-stays i (get_or p k 0) (drop (k + 1) (take n p)) h.payer (take k p) before
 
-  freed : 1 ≡ n - length (staying (head_alone i) (take n p))
+  freed : 1 ≡ length (take n p) - length (staying (head_alone i) (take n p))
   freed = omega (
     arith,
     ap length head-kept,
@@ -172,20 +148,18 @@ module _ {n i k : ℕ} {p : List ℕ} (deep : n ≤ length p) (h : HeadAt n p i 
   )
 
   gap : drop 1 (take (n - k) (drop k p)) ≡ drop (k + 1) (take n p)
-  gap =
-      let b : 1 ≡ k + 1 - k = omega arith in
-      ap (λ j. drop j (take (n - k) (drop k p))) b ∙ cut_out p k (k + 1) n (omega arith) (omega (arith, h.within)) deep
+  gap = cut_out p k 1 n (omega (arith, h.within))
 
   -- with the gap of one from there on closed they have closed up
   head-closed : (ys : List ℕ) → ys ≡ drop 1 (take (n - k) (drop k p)) ++ replicate 1 0
-      → take k p ++ (ys ++ drop (n - k) (drop k p)) ≡ closed_up n (staying (head_alone i) (take n p)) p
+      → take k p ++ (ys ++ drop (n - k) (drop k p)) ≡ closed_up (length (take n p)) (staying (head_alone i) (take n p)) ++ drop n p
   head-closed ys e =
       let a : k + (n - k) ≡ n = omega (arith, h.within) in
       ap (λ r. take k p ++ (ys ++ r)) (drop-drop (n - k) k p ∙ ap (λ j. drop j p) a)
       ∙ ap (λ r. take k p ++ (r ++ drop n p)) (e ∙ ap (λ r. r ++ replicate 1 0) gap)
       ∙ regroup (take k p) (drop (k + 1) (take n p)) (replicate 1 0) (drop n p)
-      ∙ ap (λ r. r ++ (replicate 1 0 ++ drop n p)) (sym head-kept)
-      ∙ ap (λ j. staying (head_alone i) (take n p) ++ (replicate j 0 ++ drop n p)) freed
+      ∙ ap (λ r. (r ++ replicate 1 0) ++ drop n p) (sym head-kept)
+      ∙ ap (λ j. (staying (head_alone i) (take n p) ++ replicate j 0) ++ drop n p) freed
 
 -- ---- the tables with it booked
 
@@ -218,40 +192,18 @@ module _ {T : Tables} (h : Holds T) {i k : ℕ} (q : i < members) (g : HeadAt (w
   pub accounts-head : paid T.accounts (get_or T.pays k 0) ++ drop members T.accounts ≡ (booked_in T (head_alone i)).accounts
   unfolding booked_in
   accounts-head =
-      is-fill (position (members_in T) (house_in T) (head_alone i)) T.accounts members (xs ++ drop members T.accounts) (pos 0)
-      (omega (arith, h.accounts.long))
-      (length-append xs (drop members T.accounts) ∙ omega (arith, each, length-drop members T.accounts, h.accounts.long))
-      (λ j r. get_or-append xs (drop members T.accounts) (pos 0) j (omega (arith, each)) ∙ balance-head j r)
-      behind
-    where
-      xs : List ℤ
-      xs = paid T.accounts (get_or T.pays k 0)
-
-      each : length (paid T.accounts (get_or T.pays k 0)) ≡ members
-      each = simp length-set long
-
-      behind : (j : ℕ) → members ≤ j → get_or (xs ++ drop members T.accounts) j (pos 0) ≡ get_or T.accounts j (pos 0)
-      behind j r =
-          let e : j ≡ length (paid T.accounts (get_or T.pays k 0)) + (j - members) = omega (arith, each) in
-          let f : members + (j - members) ≡ j = omega arith in
-          ap (λ m. get_or (xs ++ drop members T.accounts) m (pos 0)) e
-          ∙ get_or-append-add xs (drop members T.accounts) (j - members) (pos 0)
-          ∙ get_or-drop members T.accounts (j - members) (pos 0)
-          ∙ ap (λ m. get_or T.accounts m (pos 0)) f
+      front-fill (pos 0) members (position (members_in T) (house_in T) (head_alone i)) (paid T.accounts (get_or T.pays k 0)) T.accounts
+      (simp length-set long) balance-head
 
   -- and a payment waits that is not settled
   pub head-waits : (1 ≤ waiting_in T) × (settled_of T.counters i < last_of T.counters i)
   head-waits = (omega (arith, g.within), omega (arith, h.numbers.each i q, ap length (head-queue deep g)))
 
-near-far : (z : ℤ) → Near far_balance z → far z ≤ far_position
-near-far (pos n) h = omega arith
-near-far (negsuc n) h = omega arith
-
 -- the balances have room for a payment
 pub head-steady : {T : Tables} → Holds T → Steady (take members T.accounts)
 head-steady {T} h = record {
   each = length-take-le members T.accounts (omega (arith, h.accounts.long));
-  near = λ j l. rw (get_or-take members T.accounts j (pos 0) l) (near-far (balance_of T.accounts j) (accounts-near h.accounts j l));
+  near = λ j l. rw (get_or-take members T.accounts j (pos 0) l) (omega (arith, near-far (balance_of T.accounts j) (accounts-near h.accounts j l)));
 }
 
 one-head : (i : ℕ) → i < members → sum members (head_alone i) ≡ 1

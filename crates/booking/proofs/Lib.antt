@@ -6,7 +6,6 @@ pub mod Covering
 pub mod Staying
 pub mod Booked
 pub mod Heads
-pub mod Lowering
 pub mod Outside
 pub mod Reading
 pub mod Kept

@@ -1,13 +1,14 @@
 -- One pass over the waiting payments with counts in a list: each payment leaves or stays by what is left of its payer's count.
 use mathlib.Core.Path.{◌≡◌, refl, sym, ap, ◌∙◌}
 use mathlib.Core.Logic.{◌≢◌}
+use mathlib.Core.Bool.{true}
 use mathlib.Core.List.{List, [], ◌∷◌}
 use Prim.Native.Nat.{ℕ, zero, suc, ◌+◌, ◌-◌, ◌≤◌, ◌<◌}
 use native.Mathlib.Decide.{ℕ_discrete, dec_lt}
 use native.Mathlib.Numerals.{add-one}
 use native.Mathlib.Omega.{arith}
-use lib.ListN.{length, get_or, set, take, drop, length-take, length-set, drop_of_length-le}
-use lib.Seq.{drop-cons, get_or-take, length-take-le, get_or-set_same, get_or-set_other}
+use lib.ListN.{length, get_or, set, drop, length-set, get_or-eq_default}
+use lib.Seq.{drop-cons, get_or-set_same, get_or-set_other}
 use Rattle.rule.specs.Kernel.{Counts, sum, put}
 use Rattle.rule.specs.Payment.{payer_of}
 use Rattle.rule.specs.Table.{leaving, staying}
@@ -16,17 +17,11 @@ use Rattle.rule.proofs.Find.{put-at, put_other}
 use Rattle.tables.specs.Sizes.{members}
 use Rattle.finder.proofs.Tops.{payer-under}
 use Rattle.booking.specs.Booking.{listed}
-use Rattle.booking.specs.Steps.{Ends}
+use Rattle.booking.specs.Steps.{Passes}
 
--- the payment at place i is the next of the first n,
-pub drop-turn : (n : ℕ) (p : List ℕ) (i : ℕ) → i < n → n ≤ length p → drop i (take n p) ≡ get_or p i 0 ∷ drop (i + 1) (take n p)
-drop-turn n p i h k =
-    let s : i < length (take n p) = simp length-take-le (omega arith) in
-    rw (add-one, drop-cons (take n p) i 0, get_or-take n p i 0)
-
--- until none is left
-drop-end : (n : ℕ) (p : List ℕ) (i : ℕ) → n ≤ i → drop i (take n p) ≡ []
-drop-end n p i h = drop_of_length-le (take n p) {i = i} (omega (arith, length-take n p))
+-- the payment at place i is the next
+pub drop-turn : (p : List ℕ) (i : ℕ) → i < length p → drop i p ≡ get_or p i 0 ∷ drop (i + 1) p
+drop-turn p i h = rw (add-one, drop-cons p i 0)
 
 -- a store into the list is a change of the counts
 pub listed-set : (l : List ℕ) (s v : ℕ) → s < length l → listed (set l s v) ≡ put (listed l) s v
@@ -67,19 +62,26 @@ module _ (l : List ℕ) (w : ℕ) (ws : List ℕ) (seat : payer_of w < length l)
       ap (λ k. elim k as (λ _. List ℕ) [ zero ↦ w ∷ staying (listed l) ws | suc j ↦ staying (put (listed l) (payer_of w) j) ws ]) one_more
       ∙ ap (λ z. staying z ws) (sym (listed-set l (payer_of w) (get_or l (payer_of w) 0 - 1) seat))
 
--- ---- how many are still to leave: the sum of the counts
+-- ---- so it passes by the counts
 
-module _ (l : List ℕ) (w : ℕ) (seat : payer_of w < length l) (e : get_or l (payer_of w) 0 ≢ 0) where
+module _ (l : List ℕ) (w : ℕ) (long : length l ≡ members) (e : get_or l (payer_of w) 0 ≢ 0) where
+  seat : payer_of w < length l
+  seat = rw long (payer-under w)
+
+  -- it leaves where its payer's count is not 0, which then is one less,
+  pub passes-one : Passes w l (set l (payer_of w) (get_or l (payer_of w) 0 - 1)) true
+  passes-one = record { gone = λ ws. leaving-one l w ws seat e; kept = λ ws. staying-one l w ws seat e }
+
   fewer : sum (length l) (listed l) ≡ sum (length l) (listed (set l (payer_of w) (get_or l (payer_of w) 0 - 1))) + 1
   fewer = sum_one (length l) (listed l) (listed (set l (payer_of w) (get_or l (payer_of w) 0 - 1))) (payer_of w) 1 seat
       (rw (get_or-set_same l (payer_of w) (get_or l (payer_of w) 0 - 1) 0 seat) (omega arith))
       (λ i k ne. sym (get_or-set_other l (payer_of w) i (get_or l (payer_of w) 0 - 1) 0 ne))
 
-  -- a payment that leaves is one of them,
+  -- it is one of those still to leave,
   pub one-of-more : {more : ℕ} → more ≡ sum (length l) (listed l) → 1 ≤ more
   one-of-more m = omega (arith, fewer)
 
-  -- and after it they are one fewer
+  -- which then are one fewer
   pub one_fewer : {more : ℕ} → more ≡ sum (length l) (listed l)
       → more - 1 ≡ sum (length (set l (payer_of w) (get_or l (payer_of w) 0 - 1))) (listed (set l (payer_of w) (get_or l (payer_of w) 0 - 1)))
   one_fewer m = rw (length-set l (payer_of w) (get_or l (payer_of w) 0 - 1)) (omega (arith, fewer))
@@ -93,17 +95,16 @@ none-counted (suc n) z e i h = elim (ℕ_discrete i n) [
   | no q ↦ none-counted n z (omega arith) i (omega arith)
 ]
 
-none_left : (l ws : List ℕ) → length l ≡ members → sum (length l) (listed l) ≡ 0 → leaving (listed l) ws ≡ []
-none_left l [] h e = refl
-none_left l (w ∷ ws) h e = leaving-none (listed l) w ws (none-counted (length l) (listed l) e (payer_of w) (rw h (payer-under w))) ∙ none_left l ws h e
-
--- no payment of the rest leaves,
-pub none-leaves : {n more end : ℕ} (p l : List ℕ) (i : ℕ) → length l ≡ members → more ≡ sum (length l) (listed l) → Ends n more end → end ≤ i
-    → leaving (listed l) (drop i (take n p)) ≡ []
-none-leaves {n} {more} {end} p l i h m g q = elim (dec_lt end n) [
-  | yes r ↦ none_left l (drop i (take n p)) h (sym m ∙ g.early r)
-  | no r ↦ ap (leaving (listed l)) (drop-end n p i (omega arith))
+no-count : (l : List ℕ) (i : ℕ) → sum (length l) (listed l) ≡ 0 → listed l i ≡ 0
+no-count l i e = elim (dec_lt i (length l)) [
+  | yes h ↦ none-counted (length l) (listed l) e i h
+  | no h ↦ get_or-eq_default l 0 {n = i} (omega arith)
 ]
+
+-- where no more are to leave, none leaves,
+pub none_left : (l ws : List ℕ) → sum (length l) (listed l) ≡ 0 → leaving (listed l) ws ≡ []
+none_left l [] e = refl
+none_left l (w ∷ ws) e = leaving-none (listed l) w ws (no-count l (payer_of w) e) ∙ none_left l ws e
 
 -- and where none leaves, all stay
 pub all_stay : (z : Counts) (ws : List ℕ) → leaving z ws ≡ [] → staying z ws ≡ ws
@@ -115,3 +116,6 @@ all_stay z (w ∷ ws) e = go (z (payer_of w)) e (all_stay z ws)
         → ◌≡◌ {A = List ℕ} (elim k [ zero ↦ w ∷ staying z ws | suc j ↦ staying (put z (payer_of w) j) ws ]) (w ∷ ws)
     go zero e ih = ap (λ r. w ∷ r) (ih e)
     go (suc k) e ih = absurd (omega (arith, ap length e))
+
+-- for goals on the places of a payer
+pub ruleset seats = (payer-under)

@@ -1,6 +1,6 @@
 -- What stays is some of what waited, as many as were not counted; and closed up in the places, with 0 behind, it fills them.
 use mathlib.Core.Path.{◌≡◌, refl, sym, ap, ◌∙◌}
-use mathlib.Core.List.{List, [], ◌∷◌, ◌++◌}
+use mathlib.Core.List.{List, [], ◌∷◌, ◌++◌, append_assoc}
 use Prim.Native.Nat.{ℕ, zero, suc, ◌+◌, ◌-◌, ◌≤◌, ◌<◌}
 use native.Mathlib.Decide.{dec_lt}
 use native.Mathlib.Omega.{arith}
@@ -62,24 +62,21 @@ staying-length n t z h u =
 -- ---- closed up
 
 module _ (n : ℕ) (ws p : List ℕ) (some : length ws ≤ n) (deep : n ≤ length p) where
-  behind : List ℕ
+  abbrev behind : List ℕ
   behind = replicate (n - length ws) 0 ++ drop n p
 
-  past : (k : ℕ) → length ws ≤ k → get_or (closed_up n ws p) k 0 ≡ get_or behind (k - length ws) 0
-  unfolding behind
+  past : (k : ℕ) → length ws ≤ k → get_or (ws ++ behind) k 0 ≡ get_or behind (k - length ws) 0
   past k h =
       let e : k ≡ length ws + (k - length ws) = omega arith in
-      ap (λ j. get_or (closed_up n ws p) j 0) e ∙ get_or-append-add ws behind (k - length ws) 0
+      ap (λ j. get_or (ws ++ behind) j 0) e ∙ get_or-append-add ws behind (k - length ws) 0
 
-  cleared : (k : ℕ) → length ws ≤ k → k < n → get_or (closed_up n ws p) k 0 ≡ 0
-  unfolding behind
+  cleared : (k : ℕ) → length ws ≤ k → k < n → get_or (ws ++ behind) k 0 ≡ 0
   cleared k h l =
       past k h
       ∙ get_or-append (replicate (n - length ws) 0) (drop n p) 0 (k - length ws) (rw (length-replicate {A = ℕ} (n - length ws) 0) (omega arith))
       ∙ get_or-replicate {A = ℕ} (n - length ws) (k - length ws) 0 0 (omega arith)
 
-  beyond : (k : ℕ) → n ≤ k → get_or (closed_up n ws p) k 0 ≡ get_or p k 0
-  unfolding behind
+  beyond : (k : ℕ) → n ≤ k → get_or (ws ++ behind) k 0 ≡ get_or p k 0
   beyond k h =
       let e : k - length ws ≡ length (replicate {A = ℕ} (n - length ws) 0) + (k - n) = omega (arith, length-replicate {A = ℕ} (n - length ws) 0) in
       let f : n + (k - n) ≡ k = omega arith in
@@ -90,15 +87,17 @@ module _ (n : ℕ) (ws p : List ℕ) (some : length ws ≤ n) (deep : n ≤ leng
       ∙ ap (λ j. get_or p j 0) f
 
   -- the payments closed up fill the first m places, where those from n on were 0
-  pub closed-fill : (m : ℕ) → n ≤ m → m ≤ length p → ((k : ℕ) → n ≤ k → k < m → get_or p k 0 ≡ 0) → closed_up n ws p ≡ fill m (λ k. get_or ws k 0) p
-  closed-fill m h g zeros = is-fill (λ k. get_or ws k 0) p m (closed_up n ws p) 0 g
+  pub closed-fill : (m : ℕ) → n ≤ m → m ≤ length p → ((k : ℕ) → n ≤ k → k < m → get_or p k 0 ≡ 0) → closed_up n ws ++ drop n p ≡ fill m (λ k. get_or ws k 0) p
+  closed-fill m h g zeros =
+      append_assoc ws (replicate (n - length ws) 0) (drop n p)
+      ∙ is-fill (λ k. get_or ws k 0) p m (ws ++ behind) 0 g
       (rw (length-append, length-append, length-replicate {A = ℕ}, length-drop) (omega arith))
       (λ k l. elim (dec_lt k (length ws)) [
-        | yes q ↦ get_or-append ws (replicate (n - length ws) 0 ++ drop n p) 0 k q
+        | yes q ↦ get_or-append ws behind 0 k q
         | no q ↦ zero-at k l (omega arith) (dec_lt k n) ∙ sym (get_or-eq_default ws 0 {n = k} (omega arith))
       ])
       (λ k l. beyond k (omega arith))
     where
-      zero-at : (k : ℕ) → k < m → length ws ≤ k → Dec (k < n) → get_or (closed_up n ws p) k 0 ≡ 0
+      zero-at : (k : ℕ) → k < m → length ws ≤ k → Dec (k < n) → get_or (ws ++ behind) k 0 ≡ 0
       zero-at k l q (yes s) = cleared k q s
       zero-at k l q (no s) = beyond k (omega arith) ∙ zeros k (omega arith) l

@@ -6,27 +6,19 @@ use mathlib.Core.List.{List, [], ◌∷◌}
 use Prim.Native.Nat.{ℕ, zero, suc, ◌+◌, ◌-◌, ◌≤◌, ◌<◌, ◌^◌}
 use lib.Dec.{eqb}
 use lib.IntN.{ℤ}
-use mir.Syntax.{w64}
-use mir.Val.{SFits, to_z, of_z}
-use mir.Facts.{to_z-of_z}
 use lib.ListN.{length, get_or, take, drop, length-drop}
-use lib.Seq.{sets, sets-eq, take_at, get_or-take, length-take-le}
+use lib.Seq.{sets, sets-eq, length-sets, take_at, length-take-le}
 use borrow.Author.Tests.{eqb-true, eqb-false}
 use Rattle.numbers.specs.Numbers.{most_digits, number_of, signed_of, SmallOf, SmallSigned}
 use Rattle.numbers.proofs.Reading.{number_lt}
 use Rattle.numbers.proofs.Signs.{signed_lt}
-use Rattle.numbers.specs.declared.Number.{Number}
-use Rattle.numbers.specs.declared.Number.TheVariants.{Value, Bad}
-use Rattle.numbers.specs.declared.Signed.{Signed}
-use Rattle.numbers.specs.declared.Signed.TheVariants.{Whole, Wrong}
 use Rattle.dayfile.specs.declared.Kind.{Kind}
 use Rattle.dayfile.specs.declared.Kind.TheVariants as K
 use Rattle.dayfile.specs.declared.OpeningLine.TheVariants as O
 use Rattle.dayfile.specs.declared.DayLine.TheVariants as D
 use Rattle.dayfile.specs.declared.Entry.{Entry as Answer}
 use Rattle.dayfile.specs.declared.Entry.TheVariants as E
-use Rattle.dayfile.specs.declared.Count.{Count}
-use Rattle.dayfile.specs.declared.Count.TheVariants as C
+use Rattle.std.specs.Prelude.{Option, Some, None}
 use Rattle.dayfile.specs.Fields.{fields_of, fields_from, up_to, same}
 use Rattle.dayfile.specs.Entries.{most_counts, edition, plain_kind, member_word, house, member, pay, deposit, release, group, resolve}
 use Rattle.dayfile.specs.Entries.{Entry, opening, day, end, bad, FieldNumbers, good, short, also, add_to, numbers_of, values_of, count_from, kind_of, only_of}
@@ -41,31 +33,36 @@ by_eqb m n P f g = go (eqb m n) refl
     go true e = f (eqb-true m n e)
     go false e = g (eqb-false m n e)
 
+-- the first n of the first m
+take-within : (n m : ℕ) (v : List ℕ) → n ≤ m → take n (take m v) ≡ take n v
+take-within zero m v h = refl
+take-within (suc n) zero v h = absurd (omega arith)
+take-within (suc n) (suc m) [] h = refl
+take-within (suc n) (suc m) (x ∷ v) h = ap (λ (w : List ℕ). x ∷ w) (take-within n m v (omega arith))
+
 -- ---- what is told
 
 -- a bad line,
 pub tells-bad : (vs : List ℕ) → Tells E.Bad vs bad
 tells-bad vs = record { means = refl; few = omega arith }
 
--- a line without counts, with any list beside it,
-pub tells-any : {e : Answer} {l : Entry} (vs : List ℕ) → Tells e [] l → Tells e vs l
-tells-any {e} {l} vs t = go e t.means t.few
+-- one whose counts are among the first m of the list, with the whole list beside it,
+tells-front : {e : Answer} {l : Entry} (m : ℕ) (v : List ℕ) → m ≤ length v → Tells e (take m v) l → Tells e v l
+tells-front {e} {l} m v h t = go e t.means (rw (length-take-le m v h) at t.few)
   where
-    go : (e : Answer) → meant e [] ≡ l → counts_left e ≤ 0 → Tells e vs l
-    go (E.Opening o) q h = record { means = q; few = omega arith }
-    go (E.Day (D.Pay k a b c d)) q h = record { means = q; few = omega arith }
-    go (E.Day (D.Deposit a b)) q h = record { means = q; few = omega arith }
-    go (E.Day (D.Release a)) q h = record { means = q; few = omega arith }
-    go (E.Day (D.Group n)) q h =
-        let z : n ≡ 0 = omega arith in
-        record { means = rw z (rw z at q); few = omega arith }
-    go (E.Day D.Resolve) q h = record { means = q; few = omega arith }
-    go E.End q h = record { means = q; few = omega arith }
-    go E.Bad q h = record { means = q; few = omega arith }
+    go : (e : Answer) → meant e (take m v) ≡ l → counts_left e ≤ m → Tells e v l
+    go (E.Opening o) q k = record { means = q; few = omega arith }
+    go (E.Day (D.Pay i a b c d)) q k = record { means = q; few = omega arith }
+    go (E.Day (D.Deposit a b)) q k = record { means = q; few = omega arith }
+    go (E.Day (D.Release a)) q k = record { means = q; few = omega arith }
+    go (E.Day (D.Group n)) q k = record { means = ap (λ (w : List ℕ). day (group w)) (sym (take-within n m v k)) ∙ q; few = omega arith }
+    go (E.Day D.Resolve) q k = record { means = q; few = omega arith }
+    go E.End q k = record { means = q; few = omega arith }
+    go E.Bad q k = record { means = q; few = omega arith }
 
--- and one that has k numbers, where there are m
-tells-only : {e : Answer} {l : Entry} (vs : List ℕ) (m k : ℕ) → (m ≡ k → Tells e vs l) → Tells (cond (eqb m k) e E.Bad) vs (only_of l m k)
-tells-only {e} {l} vs m k h = by_eqb m k (λ p. Tells (cond p e E.Bad) vs (cond p l bad)) h (λ q. tells-bad vs)
+-- and one without counts, with any list beside it
+pub tells-any : {e : Answer} {l : Entry} (vs : List ℕ) → Tells e [] l → Tells e vs l
+tells-any vs t = tells-front 0 vs (omega arith) t
 
 -- two answers that tell the same are the same
 pub tells-one : {e f : Answer} {l : Entry} {vs : List ℕ} → Tells e vs l → Tells f vs l → e ≡ f
@@ -93,48 +90,13 @@ tells-one {e} {f} {l} {vs} s t = sym (brief-meant e s.few) ∙ ap brief (s.means
     brief-meant E.End h = refl
     brief-meant E.Bad h = refl
 
--- ---- each kind of line, from the first m numbers of the list
-
-module _ (v : List ℕ) (m : ℕ) (h : m ≤ length v) where
-  at : (j : ℕ) → j < m → get_or (take m v) j 0 ≡ get_or v j 0
-  at j k = get_or-take m v j 0 k
-
-  house-at : m ≡ 2 → Tells (cond (eqb (get_or v 0 0) edition) (E.Opening (O.House (get_or v 1 0))) E.Bad) v (as_house (get_or (take m v) 0 0) (get_or (take m v) 1 0))
-  house-at n = rw (at 0 (omega arith), at 1 (omega arith)) (tells-only v (get_or v 0 0) edition (λ q. record { means = refl; few = omega arith }))
-
-  pub kind-house : Tells (cond (eqb m 2) (cond (eqb (get_or v 0 0) edition) (E.Opening (O.House (get_or v 1 0))) E.Bad) E.Bad) v (of_kind K.House (take m v))
-  kind-house = rw (length-take-le m v h) (tells-only v m 2 house-at)
-
-  pub kind-pay : Tells (cond (eqb m 4) (E.Day (D.Pay plain_kind (get_or v 0 0) (get_or v 1 0) (get_or v 2 0) (get_or v 3 0))) E.Bad) v (of_kind K.Pay (take m v))
-  kind-pay =
-      rw (length-take-le m v h)
-      (tells-only v m 4 (λ n. rw (at 0 (omega arith), at 1 (omega arith), at 2 (omega arith), at 3 (omega arith)) (record { means = refl; few = omega arith })))
-
-  pub kind-deposit : Tells (cond (eqb m 2) (E.Day (D.Deposit (get_or v 0 0) (get_or v 1 0))) E.Bad) v (of_kind K.Deposit (take m v))
-  kind-deposit = rw (length-take-le m v h) (tells-only v m 2 (λ n. rw (at 0 (omega arith), at 1 (omega arith)) (record { means = refl; few = omega arith })))
-
-  pub kind-release : Tells (cond (eqb m 1) (E.Day (D.Release (get_or v 0 0))) E.Bad) v (of_kind K.Release (take m v))
-  kind-release = rw (length-take-le m v h) (tells-only v m 1 (λ n. rw (at 0 (omega arith)) (record { means = refl; few = omega arith })))
-
-  pub kind-group : Tells (cond (eqb m 0) E.Bad (E.Day (D.Group m))) v (of_kind K.Group (take m v))
-  kind-group =
-      rw (length-take-le m v h)
-      (by_eqb m 0 (λ p. Tells (cond p E.Bad (E.Day (D.Group m))) v (cond p bad (day (group (take m v))))) (λ q. tells-bad v)
-      (λ q. record { means = refl; few = h }))
-
-  pub kind-resolve : Tells (cond (eqb m 0) (E.Day D.Resolve) E.Bad) v (of_kind K.Resolve (take m v))
-  kind-resolve = rw (length-take-le m v h) (tells-only v m 0 (λ n. record { means = refl; few = omega arith }))
-
-  pub kind-end : Tells (cond (eqb m 0) E.End E.Bad) v (of_kind K.End (take m v))
-  kind-end = rw (length-take-le m v h) (tells-only v m 0 (λ n. record { means = refl; few = omega arith }))
-
 also-le : (x r : ℕ) (ns : FieldNumbers) → length (values_of ns) ≤ r → length (values_of (also x ns)) ≤ suc r
 also-le x r (good vs) h = omega arith
 also-le x r (short vs) h = omega arith
 
-add-le : (n : Number) (r : ℕ) (ns : FieldNumbers) → length (values_of ns) ≤ r → length (values_of (add_to n ns)) ≤ suc r
-add-le (Value x) r ns h = also-le x r ns h
-add-le Bad r ns h = omega arith
+add-le : (n : Option ℕ) (r : ℕ) (ns : FieldNumbers) → length (values_of ns) ≤ r → length (values_of (add_to n ns)) ≤ suc r
+add-le (Some x) r ns h = also-le x r ns h
+add-le None r ns h = omega arith
 
 values-le : (r : ℕ) (fs : List (List ℕ)) → length (values_of (numbers_of r fs)) ≤ r
 unfolding numbers_of
@@ -145,18 +107,14 @@ values-le (suc r) (f ∷ fs) = add-le (number_of f) r (numbers_of r fs) (values-
 
 -- ---- what the count of the numbers tells
 
-pub count-wrong : (k : Kind) (ns : FieldNumbers) (n : Count) (vs : List ℕ) → n ≡ count_from 0 ns → n ≡ C.Wrong → Tells E.Bad vs (of_numbers k ns)
-count-wrong k (good ws) n vs a b = let z : ◌≡◌ {A = ℕ} 0 1 = cc in absurd (omega arith)
-count-wrong k (short ws) n vs a b = tells-bad vs
-
-good-count : (m n : ℕ) → C.Good m ≡ C.Good n → m ≡ n
+good-count : (m n : ℕ) → Some m ≡ Some n → m ≡ n
 good-count m n e = cc
 
 -- the numbers stand at the beginning of the list
 numbers-put : (v vs : List ℕ) → length vs ≤ length v → take (length vs) (sets v 0 vs) ≡ vs
 numbers-put v vs h = let e : 0 + length vs ≤ length v = omega arith in rw (sets-eq vs v 0 e) (take_at vs (drop (0 + length vs) v) (length vs) refl)
 
-count_by : (k : Kind) (ns : FieldNumbers) (m : ℕ) (v w : List ℕ) → count_from 0 ns ≡ C.Good m → length (values_of ns) ≤ length v → w ≡ sets v 0 (values_of ns)
+count_by : (k : Kind) (ns : FieldNumbers) (m : ℕ) (v w : List ℕ) → count_from 0 ns ≡ Some m → length (values_of ns) ≤ length v → w ≡ sets v 0 (values_of ns)
     → (m ≡ length (values_of ns)) × (of_kind k (take m w) ≡ of_numbers k ns)
 count_by k (good vs) m v w e h q =
     let z : m ≡ length vs = omega (arith, good-count (0 + length vs) m e) in
@@ -164,16 +122,16 @@ count_by k (good vs) m v w e h q =
 count_by k (short vs) m v w e h q = let z : ◌≡◌ {A = ℕ} 0 1 = cc in absurd (omega arith)
 
 -- the numbers of some fields were read, and left in the lent list
-module _ (fs : List (List ℕ)) (n : Count) (m : ℕ) (v w : List ℕ) (a : n ≡ count_from 0 (numbers_of most_counts fs)) (b : n ≡ C.Good m) (l : length v ≡ most_counts)
+module _ (fs : List (List ℕ)) (n : Option ℕ) (m : ℕ) (v w : List ℕ) (a : n ≡ count_from 0 (numbers_of most_counts fs)) (b : n ≡ Some m) (l : length v ≡ most_counts)
     (q : w ≡ sets v 0 (values_of (numbers_of most_counts fs))) where
   few : length (values_of (numbers_of most_counts fs)) ≤ length v
   few = omega (arith, values-le most_counts fs)
 
-  pub count-few : m ≤ most_counts
-  count-few = omega (arith, (count_by K.Other (numbers_of most_counts fs) m v w (sym a ∙ b) few q).0, values-le most_counts fs)
-
-  pub count-good : (j k : Kind) {r : Answer} → j ≡ k → Tells r w (of_kind j (take m w)) → Tells r w (of_numbers k (numbers_of most_counts fs))
-  count-good j k {r} e t = subst (Tells r w) (ap (λ (i : Kind). of_kind i (take m w)) e ∙ (count_by k (numbers_of most_counts fs) m v w (sym a ∙ b) few q).1) t
+  pub count-good : (j k : Kind) {r : Answer} → j ≡ k → Tells r (take m w) (of_kind j (take m w)) → Tells r w (of_numbers k (numbers_of most_counts fs))
+  count-good j k {r} e t =
+      let g = count_by k (numbers_of most_counts fs) m v w (sym a ∙ b) few q in
+      let f : m ≤ length w = rw q (omega (arith, g.0, few, length-sets v 0 (values_of (numbers_of most_counts fs)))) in
+      subst (Tells r w) (ap (λ (i : Kind). of_kind i (take m w)) e ∙ g.1) (tells-front m w f t)
 
 -- what the first word tells
 module _ (s : List ℕ) (e : ℕ) (q : e ≡ 0 + up_to s) (l : e ≤ length s) (b : Bool) (t : b ≡ same (take e s) member_word) where
@@ -209,7 +167,7 @@ module _ (s : List ℕ) (from a : ℕ) (h : from ≤ length s) (p : a ≡ from +
             fields-step s (c + 1) (c + 1 + up_to (drop (c + 1) s)) d refl u,
           ) (tells-bad [])
 
-      pub three-fields : length s ≤ c → (x : Number) (y : Signed) (z : Number) {r : Answer}
+      pub three-fields : length s ≤ c → (x : Option ℕ) (y : Option ℤ) (z : Option ℕ) {r : Answer}
           → x ≡ number_of (take (a - from) (drop from s)) → y ≡ signed_of (take (b - (a + 1)) (drop (a + 1) s))
           → z ≡ number_of (take (c - (b + 1)) (drop (b + 1) s))
           → Tells r [] (as_member x y z) → Tells r [] (member_of (fields_from from s))
@@ -224,16 +182,11 @@ module _ (s : List ℕ) (from a : ℕ) (h : from ≤ length s) (p : a ≡ from +
             ← u,
           ) t
 
--- a member line from its three fields
-pub member-read : (x : Number) (y : Signed) (z : Number) (n : ℕ) (b : ℤ) (l : ℕ) → SFits w64 b → x ≡ Value n → y ≡ Whole b → z ≡ Value l
-    → Tells (E.Opening (O.Member n (to_z w64 (of_z w64 b)) l)) [] (as_member x y z)
-member-read x y z n b l h p q r = rw (p, q, r, to_z-of_z {w = w64} h) (record { means = refl; few = omega arith })
-
 -- the numbers of a line have at most 18 digits
-add_small : (n : Number) (ns : FieldNumbers) → SmallOf n → AllSmall (values_of ns) → AllSmall (values_of (add_to n ns))
-add_small (Value x) (good vs) h s = (h, s)
-add_small (Value x) (short vs) h s = (h, s)
-add_small Bad ns h s = tt
+add_small : (n : Option ℕ) (ns : FieldNumbers) → SmallOf n → AllSmall (values_of ns) → AllSmall (values_of (add_to n ns))
+add_small (Some x) (good vs) h s = (h, s)
+add_small (Some x) (short vs) h s = (h, s)
+add_small None ns h s = tt
 
 numbers-small : (r : ℕ) (fs : List (List ℕ)) → AllSmall (values_of (numbers_of r fs))
 unfolding numbers_of
@@ -273,11 +226,11 @@ numbers-entry : (k : Kind) (ns : FieldNumbers) → length (values_of ns) ≤ mos
 numbers-entry k (good vs) l s = kind-small vs l s k
 numbers-entry k (short vs) l s = tt
 
-as-member-small : (n : Number) (b : Signed) (l : Number) → SmallOf n → SmallSigned b → SmallOf l → SmallEntry (as_member n b l)
-as-member-small (Value n) (Whole b) (Value l) x y z = (x, y, z)
-as-member-small (Value n) (Whole b) Bad x y z = tt
-as-member-small (Value n) Wrong l x y z = tt
-as-member-small Bad b l x y z = tt
+as-member-small : (n : Option ℕ) (b : Option ℤ) (l : Option ℕ) → SmallOf n → SmallSigned b → SmallOf l → SmallEntry (as_member n b l)
+as-member-small (Some n) (Some b) (Some l) x y z = (x, y, z)
+as-member-small (Some n) (Some b) None x y z = tt
+as-member-small (Some n) None l x y z = tt
+as-member-small None b l x y z = tt
 
 member-small : (fs : List (List ℕ)) → SmallEntry (member_of fs)
 member-small [] = tt

@@ -1,27 +1,23 @@
--- From places in a line to its fields: the next tab ends a field, and the fields behind it follow; and when two texts are the same.
+-- From places in a line to its fields: the next tab ends a field, and the fields behind it follow.
 use native.Mathlib.Omega.{arith}
-use native.Mathlib.Numerals.{add-one}
 use mathlib.Core.Path.{◌≡◌, refl, sym, ap, ◌∙◌}
-use mathlib.Core.Bool.{Bool, true, false, cond, ◌&&◌}
+use mathlib.Core.Bool.{Bool, true, false, cond}
 use mathlib.Core.List.{List, [], ◌∷◌}
 use Prim.Native.Nat.{ℕ, zero, suc, ◌+◌, ◌-◌, ◌≤◌, ◌<◌}
 use lib.Dec.{eqb, leb-suc-suc}
-use lib.ListN.{length, get_or, take, drop, drop_of_length-le}
-use lib.Seq.{drop-cons, drop-drop}
+use lib.ListN.{length, get_or, take, drop}
+use lib.Seq.{drop-drop}
+use mathlib.Core.Logic.{◌≢◌}
+use Rattle.std.proofs.lemmas.List.Recursion.{is_position_or_len}
+use Rattle.std.proofs.lemmas.List.Sums.{position_or_len_is}
 use borrow.Author.Tests.{le-leb, lt-leb, eq-eqb, ne_eqb}
-use Rattle.dayfile.specs.Fields.{fields_of, fields_from, up_to, same, onto}
+use Rattle.dayfile.specs.Fields.{fields_of, fields_from, up_to, onto}
 
-pub tab-here : (s : List ℕ) (i : ℕ) → i < length s → get_or s i 0 ≡ 9 → up_to (drop i s) ≡ 0
+-- the first tab: no byte before it is one
+pub tab_at : (s : List ℕ) (e : ℕ) → e ≤ length s → ((j : ℕ) → j < e → get_or s j 0 ≢ 9) → (e < length s → get_or s e 0 ≡ 9) → e ≡ up_to s
 unfolding up_to
-tab-here s i h e = rw (drop-cons s i 0 h, eq-eqb (get_or s i 0) 9 e)
-
-pub tab-later : (s : List ℕ) (i : ℕ) → i < length s → (get_or s i 0 ≡ 9 → ⊥) → up_to (drop i s) ≡ suc (up_to (drop (i + 1) s))
-unfolding up_to
-tab-later s i h e = rw (add-one, drop-cons s i 0 h, ne_eqb (get_or s i 0) 9 e)
-
-pub tab-end : (s : List ℕ) (i : ℕ) → length s ≤ i → up_to (drop i s) ≡ 0
-unfolding up_to
-tab-end s i h = rw (drop_of_length-le s h)
+tab_at s e l f g = sym (is_position_or_len up_to (λ b. eqb b 9) refl (λ b t. ap (cond (eqb b 9) 0) (omega arith)) s
+    ∙ position_or_len_is (λ b. eqb b 9) s e 0 l (λ k q. ne_eqb _ 9 (f k q)) (λ q. eq-eqb _ 9 (g q)))
 
 up_by : (p : Bool) (u l : ℕ) → u ≤ l → cond p 0 (suc u) ≤ suc l
 up_by true u l h = omega arith
@@ -71,27 +67,3 @@ fields-line s e q l =
     let z : e - 0 ≡ e = omega arith in
     let w : fields_from 0 s ≡ fields_of s = rw (le-leb 0 (length s) (omega arith)) in
     sym w ∙ fields-step s 0 e (omega arith) q l ∙ rw z
-
-none-same : (p : Bool) → (p && false) ≡ false
-none-same true = refl
-none-same false = refl
-
-pub same_length : (s t : List ℕ) → (length s ≡ length t → ⊥) → same s t ≡ false
-unfolding same
-same_length [] [] h = absurd (h refl)
-same_length [] (b ∷ t) h = refl
-same_length (a ∷ s) [] h = refl
-same_length (a ∷ s) (b ∷ t) h = rw (same_length s t (λ e. h (ap suc e))) (none-same (eqb a b))
-
-module _ (s t : List ℕ) (i : ℕ) (h : i < length s) (k : i < length t) where
-  pub same_step : get_or s i 0 ≡ get_or t i 0 → same (drop i s) (drop i t) ≡ same (drop (i + 1) s) (drop (i + 1) t)
-  unfolding same
-  same_step e = rw (add-one, drop-cons s i 0 h, drop-cons t i 0 k, eq-eqb (get_or s i 0) (get_or t i 0) e)
-
-  pub same-differ : (get_or s i 0 ≡ get_or t i 0 → ⊥) → same (drop i s) (drop i t) ≡ false
-  unfolding same
-  same-differ e = rw (drop-cons s i 0 h, drop-cons t i 0 k, ne_eqb (get_or s i 0) (get_or t i 0) e)
-
-pub same_end : (s t : List ℕ) (i : ℕ) → length s ≤ i → length t ≤ i → same (drop i s) (drop i t) ≡ true
-unfolding same
-same_end s t i h k = rw (drop_of_length-le s h, drop_of_length-le t k)

@@ -4,10 +4,10 @@ use native.Mathlib.Numerals.{add-one}
 use mathlib.Core.Path.{◌≡◌, refl, sym, ap, ◌∙◌}
 use mathlib.Core.List.{List, [], ◌∷◌}
 use Prim.Native.Nat.{ℕ, zero, suc, ◌+◌, ◌-◌, ◌≤◌, ◌<◌}
-use lib.ListN.{length, take, drop, set, length-drop, length-set}
+use lib.ListN.{length, take, drop, set, length-drop}
 use lib.Seq.{sets}
 use Rattle.numbers.specs.Numbers.{number_of}
-use Rattle.numbers.specs.declared.Number.{Number}
+use Rattle.std.specs.Prelude.{Option}
 use Rattle.dayfile.specs.Fields.{fields_from, up_to}
 use Rattle.dayfile.specs.Entries.{most_counts, FieldNumbers, good, short, also, add_to, numbers_of, values_of, count_from}
 use Rattle.dayfile.proofs.Fields.{tab-within, fields-step, fields-end}
@@ -21,9 +21,9 @@ no_room : (f : List ℕ) (fs : List (List ℕ)) (k : ℕ) → k ≡ 0 → number
 unfolding numbers_of
 no_room f fs k h = rw h
 
-next_field : (f : List ℕ) (fs : List (List ℕ)) (k j : ℕ) (m : Number) → k ≡ suc j → number_of f ≡ m → numbers_of k (f ∷ fs) ≡ add_to m (numbers_of j fs)
+next_field : (f : List ℕ) (fs : List (List ℕ)) (k j : ℕ) (m : Option ℕ) → k ≡ suc j → number_of f ≡ m → numbers_of k (f ∷ fs) ≡ add_to m (numbers_of j fs)
 unfolding numbers_of
-next_field f fs k j m h e = rw h (ap (λ (x : Number). add_to x (numbers_of j fs)) e)
+next_field f fs k j m h e = rw h (ap (λ (x : Option ℕ). add_to x (numbers_of j fs)) e)
 
 also-count : (n x : ℕ) (ns : FieldNumbers) → count_from (n + 1) ns ≡ count_from n (also x ns)
 also-count n x (good vs) = let e : n + 1 + length vs ≡ n + suc (length vs) = omega arith in rw e
@@ -45,7 +45,7 @@ step-full s at n h k =
 pub step_end : (s : List ℕ) (at n : ℕ) → length s < at → left s at n ≡ good []
 step_end s at n h = ap (numbers_of (most_counts - n)) (fields-end s at h) ∙ none_left (most_counts - n)
 
-pub step_field : (s : List ℕ) (at e n : ℕ) (m : Number) → at ≤ length s → e ≡ at + up_to (drop at s) → e ≤ length s → n < most_counts
+pub step_field : (s : List ℕ) (at e n : ℕ) (m : Option ℕ) → at ≤ length s → e ≡ at + up_to (drop at s) → e ≤ length s → n < most_counts
     → m ≡ number_of (take (e - at) (drop at s)) → left s at n ≡ add_to m (left s (e + 1) (n + 1))
 step_field s at e n m h q l k b =
     ap (numbers_of (most_counts - n)) (fields-step s at e h q l)
@@ -54,7 +54,6 @@ step_field s at e n m h q l k b =
 -- what has been read so far, with what is left, is the whole
 pub record Turned (s : List ℕ) (ns : FieldNumbers) (v₀ v : List ℕ) (at n : ℕ) : Type 0 where
   pub few : n ≤ most_counts
-  pub long : length v ≡ most_counts
   pub counted : count_from n (left s at n) ≡ count_from 0 ns
   pub stored : sets v n (values_of (left s at n)) ≡ sets v₀ 0 (values_of ns)
 
@@ -67,7 +66,6 @@ module _ (s : List ℕ) (ns : FieldNumbers) (v₀ v : List ℕ) (at n : ℕ) (t 
       let r = turn-stop (also x (left s (e + 1) (n + 1))) q in
       record {
         few = omega arith;
-        long = simp length-set t.long;
         counted = also-count n x (left s (e + 1) (n + 1)) ∙ r.0;
         stored = also-values v n x (left s (e + 1) (n + 1)) ∙ r.1;
       }

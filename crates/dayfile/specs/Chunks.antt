@@ -46,10 +46,6 @@ pub record AteSo (r : Ate) (e : Eaten) (buf : List ℕ) (from : ℕ) : Type 0 wh
   pub place : r.at ≡ from + e.used
   pub held : state_of buf r.cut ≡ e.held
 
--- so many bytes are looked at a turn
-abbrev pub stride : ℕ
-stride = 16
-
 -- e is the place of the first byte 10, or the length where there is none
 pub record EndAt (s : List ℕ) (e : ℕ) : Type 0 where
   pub within : e ≤ length s

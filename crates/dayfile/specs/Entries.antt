@@ -1,14 +1,8 @@
 -- What a line of the day file says (document 01, "The day file and the sheet"). The form of the whole line is judged here, and no range.
-use Rattle.std.specs.Prelude.{ℕ, zero, suc, ◌+◌, ◌^◌, ◌≤◌, ◌<◌, ◌≡◌, cond, List, [], ◌∷◌, length, get_or, ℤ, nat_abs, eqb}
+use Rattle.std.specs.Prelude.{ℕ, zero, suc, ◌+◌, ◌^◌, ◌≤◌, ◌<◌, ◌≡◌, cond, List, [], ◌∷◌, length, get_or, ℤ, nat_abs, eqb, Option, Some, None}
 use Rattle.numbers.specs.Numbers.{most_digits, number_of, signed_of}
-use Rattle.numbers.specs.declared.Number.{Number}
-use Rattle.numbers.specs.declared.Number.TheVariants.{Value, Bad}
-use Rattle.numbers.specs.declared.Signed.{Signed}
-use Rattle.numbers.specs.declared.Signed.TheVariants.{Whole, Wrong}
 use Rattle.dayfile.specs.declared.Kind.{Kind}
 use Rattle.dayfile.specs.declared.Kind.TheVariants as K
-use Rattle.dayfile.specs.declared.Count.{Count}
-use Rattle.dayfile.specs.declared.Count.TheVariants as C
 use Rattle.dayfile.specs.Fields.{fields_of, same}
 
 -- ---- the fixed numbers of a day file
@@ -109,9 +103,9 @@ also x (good vs) = good (x ∷ vs)
 also x (short vs) = short (x ∷ vs)
 
 -- a field before the others
-abbrev pub add_to : Number → FieldNumbers → FieldNumbers
-add_to (Value x) ns = also x ns
-add_to Bad ns = short []
+abbrev pub add_to : Option ℕ → FieldNumbers → FieldNumbers
+add_to (Some x) ns = also x ns
+add_to None ns = short []
 
 -- the numbers in some fields, of which there may be room
 unfoldable pub numbers_of : ℕ → List (List ℕ) → FieldNumbers
@@ -126,9 +120,9 @@ values_of (good vs) = vs
 values_of (short vs) = vs
 
 -- how many there are, behind n others
-abbrev pub count_from : ℕ → FieldNumbers → Count
-count_from n (good vs) = C.Good (n + length vs)
-count_from n (short vs) = C.Wrong
+abbrev pub count_from : ℕ → FieldNumbers → Option ℕ
+count_from n (good vs) = Some (n + length vs)
+count_from n (short vs) = None
 
 -- an entry that has k numbers, where there are m
 abbrev pub only_of : Entry → ℕ → ℕ → Entry
@@ -159,11 +153,11 @@ of_numbers k (good vs) = of_kind k vs
 of_numbers k (short vs) = bad
 
 -- `member` number, balance, line, as they were read
-abbrev pub as_member : Number → Signed → Number → Entry
-as_member (Value n) (Whole b) (Value l) = opening (member n b l)
-as_member (Value n) (Whole b) Bad = bad
-as_member (Value n) Wrong l = bad
-as_member Bad b l = bad
+abbrev pub as_member : Option ℕ → Option ℤ → Option ℕ → Entry
+as_member (Some n) (Some b) (Some l) = opening (member n b l)
+as_member (Some n) (Some b) None = bad
+as_member (Some n) None l = bad
+as_member None b l = bad
 
 -- the fields of a `member` line, which are three
 abbrev pub member_of : List (List ℕ) → Entry

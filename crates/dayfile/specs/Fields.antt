@@ -1,5 +1,6 @@
 -- A line's fields, parted by one tab (byte 9). A text is the list of its bytes.
-use Rattle.std.specs.Prelude.{ℕ, suc, Bool, true, false, cond, ◌&&◌, List, [], ◌∷◌, leb, eqb, length, drop}
+use Rattle.std.specs.Prelude.{ℕ, suc, Bool, cond, List, [], ◌∷◌, leb, eqb, length, drop}
+use Rattle.std.specs.Str.{bytes_eq}
 
 -- byte b before the first field
 abbrev pub onto : ℕ → List (List ℕ) → List (List ℕ)
@@ -21,8 +22,5 @@ abbrev pub fields_from : ℕ → List ℕ → List (List ℕ)
 fields_from at s = cond (leb at (length s)) (fields_of (drop at s)) []
 
 -- whether two texts are the same
-unfoldable pub same : List ℕ → List ℕ → Bool
-same [] [] = true
-same [] (b ∷ t) = false
-same (a ∷ s) [] = false
-same (a ∷ s) (b ∷ t) = eqb a b && same s t
+abbrev pub same : List ℕ → List ℕ → Bool
+same s t = bytes_eq s t

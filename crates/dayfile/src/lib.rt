@@ -1,17 +1,16 @@
 // A line of the day file, from its bytes to what it says.
 #![tactic(auto)]
 
-ghost use Rattle.std.specs.Prelude.{◌≡◌, cond, [], ◌+◌, ◌-◌, ◌≤◌, eqb, length, take, drop};
+ghost use Rattle.std.specs.Prelude.{◌≡◌, cond, [], ◌+◌, ◌-◌, ◌≤◌, eqb, length, take, drop, IfSome};
 ghost use Rattle.std.proofs.lemmas.List.Edits.{sets};
 ghost use Rattle.numbers.specs.Numbers.{number_of, signed_of};
 ghost use Rattle.dayfile.specs.declared.OpeningLine.TheVariants as openings;
-ghost use Rattle.dayfile.specs.declared.DayLine.TheVariants as days;
 ghost use Rattle.dayfile.specs.declared.Entry.TheVariants as entries;
 ghost use Rattle.dayfile.specs.Fields.{up_to, fields_from, same};
 ghost use Rattle.dayfile.specs.Entries.{most_counts, edition as first, numbers_of, values_of, count_from, kind_of, of_kind, of_numbers, as_member, member_of, entry_of};
 ghost use Rattle.dayfile.specs.Reading.{Tells, left_of};
 
-use numbers::{Number, Signed};
+use numbers::{read_number, read_signed};
 
 pub mod lines;
 
@@ -25,6 +24,7 @@ pub const MOST_COUNTS: usize = 64;
 const EDITION: u64 = 1;
 
 // The kind of a payment by `pay`.
+// Kept: a number, as the definition of a line has it (`dayfile::specs::Entries::DayLine`).
 const PLAIN: u64 = 0;
 
 // A line of the opening: house count; member number, balance, line.
@@ -36,6 +36,7 @@ pub enum OpeningLine {
 
 // A line of the day: a payment's kind, payer, number, payee, amount; deposit member, amount; release member; group how many counts, which
 // stand in the lent list; resolve.
+// Kept: the counts stay a lent list beside the line, since an enum with an array would be copied on each line.
 #[derive(Drop)]
 pub enum DayLine {
     Pay(u64, u64, u64, u64, u64),
@@ -46,6 +47,7 @@ pub enum DayLine {
 }
 
 // What a line says.
+// Kept: a bad line is an entry like another, which each stage of the night answers (`dayfile::specs::Entries::Entry`).
 #[derive(Drop)]
 pub enum Entry {
     Opening(OpeningLine),
@@ -55,7 +57,8 @@ pub enum Entry {
 }
 
 // The kind that a line's first word names, where all its fields are numbers.
-#[derive(Drop)]
+// Kept: a word that names none has a kind of its own, as `dayfile::specs::Entries::kind_of` says.
+#[derive(Clone, Copy)]
 enum Kind {
     House,
     Pay,
@@ -67,37 +70,28 @@ enum Kind {
     Other,
 }
 
-// How many numbers were read.
-#[derive(Drop)]
-enum Count {
-    Good(usize),
-    Wrong,
-}
-
 // What a line says. A group's counts are left in the lent list.
-pub fn read_line(line: &[u8], counts: &mut [u64]) -> Entry
-    requires { length counts.old ≡ most_counts }
+pub fn read_line(line: &[u8], counts: &mut [u64; MOST_COUNTS]) -> Entry
     ensures tells { Tells result counts.new (entry_of line.now) }
     ensures counts_after { counts.new ≡ sets counts.old 0 (left_of line.now) }
 {
     let e = next_tab(line, 0);
-    if equal(&line[..e], b"member") {
+    if &line[..e] == b"member".as_slice() {
         return read_member(line, e + 1);
     }
     read_kind(line, e, counts)
 }
 
 // What a line says whose first word, which ends at e, is not member.
-fn read_kind(line: &[u8], e: usize, counts: &mut [u64]) -> Entry
-    requires { (e ≤ length line.now) × (length counts.old ≡ most_counts) }
+fn read_kind(line: &[u8], e: usize, counts: &mut [u64; MOST_COUNTS]) -> Entry
+    requires { e ≤ length line.now }
     ensures tells { Tells result counts.new (of_numbers (kind_of (take e line.now)) (numbers_of most_counts (fields_from (e + 1) line.now))) }
     ensures counts_after { counts.new ≡ sets counts.old 0 (values_of (numbers_of most_counts (fields_from (e + 1) line.now))) }
 {
-    let k = kind_of(&line[..e]);
-    let Count::Good(m) = read_numbers(line, e + 1, counts) else {
-        return Entry::Bad;
-    };
-    shape(k, m, counts)
+    match read_numbers(line, e + 1, counts) {
+        Some(m) => shape(kind_of(&line[..e]), &counts[..m]),
+        None => Entry::Bad,
+    }
 }
 
 // The place of the next tab from place from on, or the line's end.
@@ -105,30 +99,8 @@ fn next_tab(line: &[u8], from: usize) -> usize
     requires { from ≤ length line.now }
     ensures { (result ≡ from + up_to (drop from line.now)) × (from ≤ result) × (result ≤ length line.now) }
 {
-    let mut i = from;
-    while i < line.len() {
-        if line[i] == 9 {
-            return i;
-        }
-        i += 1;
-    }
-    i
-}
-
-// The number in the part of the line from at to e.
-fn number_at(line: &[u8], at: usize, e: usize) -> Number
-    requires { (at ≤ e) × (e ≤ length line.now) }
-    ensures { result ≡ number_of (take (e - at) (drop at line.now)) }
-{
-    numbers::read_number(&line[at..e])
-}
-
-// The whole number in the part of the line from at to e.
-fn signed_at(line: &[u8], at: usize, e: usize) -> Signed
-    requires { (at ≤ e) × (e ≤ length line.now) }
-    ensures { result ≡ signed_of (take (e - at) (drop at line.now)) }
-{
-    numbers::read_signed(&line[at..e])
+    let rest = &line[from..];
+    from + rest.iter().position(|&b| b == b'\t').unwrap_or(rest.len())
 }
 
 // The fields of a member line from place from on.
@@ -151,122 +123,83 @@ fn read_member(line: &[u8], from: usize) -> Entry
     if c < n {
         return Entry::Bad;
     }
-    member(
-        number_at(line, from, a),
-        signed_at(line, a + 1, b),
-        number_at(line, b + 1, c),
-    )
+    let number = read_number(&line[from..a]);
+    let balance = read_signed(&line[a + 1..b]);
+    let limit = read_number(&line[b + 1..c]);
+    member(number, balance, limit)
 }
 
 // A member line with its three fields.
-fn member(number: Number, balance: Signed, limit: Number) -> Entry
+fn member(number: Option<u64>, balance: Option<i64>, limit: Option<u64>) -> Entry
     ensures { Tells result [] (as_member number balance limit) }
 {
-    let Number::Value(n) = number else {
-        return Entry::Bad;
-    };
-    let Signed::Whole(b) = balance else {
-        return Entry::Bad;
-    };
-    let Number::Value(l) = limit else {
-        return Entry::Bad;
-    };
-    Entry::Opening(OpeningLine::Member(n, b, l))
+    match (number, balance, limit) {
+        (Some(n), Some(b), Some(l)) => Entry::Opening(OpeningLine::Member(n, b, l)),
+        _ => Entry::Bad,
+    }
 }
 
-// The fields from place from on, as numbers, into the lent list.
-fn read_numbers(line: &[u8], from: usize, counts: &mut [u64]) -> Count
-    requires { length counts.old ≡ most_counts }
+// The fields from place from on, as numbers, into the lent list, and how many there are.
+fn read_numbers(line: &[u8], from: usize, counts: &mut [u64; MOST_COUNTS]) -> Option<usize>
+    ensures few { IfSome result (λ m. m ≤ most_counts) }
     ensures value { result ≡ count_from 0 (numbers_of most_counts (fields_from from line.now)) }
     ensures counts_after { counts.new ≡ sets counts.old 0 (values_of (numbers_of most_counts (fields_from from line.now))) }
 {
     let mut at = from;
-    let mut n = 0usize;
+    let mut n = 0;
+    // Kept: a turn goes from tab to tab, not by one; `split` would find an empty field where the line has ended before from.
     while at <= line.len() {
         if MOST_COUNTS <= n {
-            return Count::Wrong;
+            return None;
         }
         let e = next_tab(line, at);
-        let Number::Value(x) = number_at(line, at, e) else {
-            return Count::Wrong;
-        };
-        counts[n] = x;
+        counts[n] = read_number(&line[at..e])?;
         n += 1;
         at = e + 1;
     }
-    Count::Good(n)
-}
-
-// Whether two texts are the same.
-fn equal(a: &[u8], b: &[u8]) -> bool
-    ensures { result ≡ same a.now b.now }
-{
-    if a.len() != b.len() {
-        return false;
-    }
-    let mut i = 0usize;
-    while i < a.len() {
-        if a[i] != b[i] {
-            return false;
-        }
-        i += 1;
-    }
-    true
+    Some(n)
 }
 
 // The kind that a word names.
+// Kept: tried as a `match` on byte strings; that leaves forty goals, one for each letter, and a comparison leaves none.
 fn kind_of(word: &[u8]) -> Kind
     ensures { result ≡ kind_of word.now }
 {
-    if equal(word, b"house") {
-        return Kind::House;
-    }
-    if equal(word, b"pay") {
-        return Kind::Pay;
-    }
-    if equal(word, b"deposit") {
-        return Kind::Deposit;
-    }
-    if equal(word, b"release") {
-        return Kind::Release;
-    }
-    if equal(word, b"group") {
-        return Kind::Group;
-    }
-    if equal(word, b"resolve") {
-        return Kind::Resolve;
-    }
-    if equal(word, b"end") {
-        return Kind::End;
-    }
-    Kind::Other
-}
-
-// A line of kind k with the first m numbers of the list.
-fn shape(k: Kind, m: usize, counts: &[u64]) -> Entry
-    requires { (length counts.now ≡ most_counts) × (m ≤ most_counts) }
-    ensures { Tells result counts.now (of_kind k (take m counts.now)) }
-{
-    match k {
-        Kind::House => only(house(counts[0], counts[1]), m, 2),
-        Kind::Pay => {
-            let p = DayLine::Pay(PLAIN, counts[0], counts[1], counts[2], counts[3]);
-            only(Entry::Day(p), m, 4)
-        }
-        Kind::Deposit => only(Entry::Day(DayLine::Deposit(counts[0], counts[1])), m, 2),
-        Kind::Release => only(Entry::Day(DayLine::Release(counts[0])), m, 1),
-        Kind::Group => group(m),
-        Kind::Resolve => only(Entry::Day(DayLine::Resolve), m, 0),
-        Kind::End => only(Entry::End, m, 0),
-        Kind::Other => Entry::Bad,
+    if word == b"house".as_slice() {
+        Kind::House
+    } else if word == b"pay".as_slice() {
+        Kind::Pay
+    } else if word == b"deposit".as_slice() {
+        Kind::Deposit
+    } else if word == b"release".as_slice() {
+        Kind::Release
+    } else if word == b"group".as_slice() {
+        Kind::Group
+    } else if word == b"resolve".as_slice() {
+        Kind::Resolve
+    } else if word == b"end".as_slice() {
+        Kind::End
+    } else {
+        Kind::Other
     }
 }
 
-// An entry that has k numbers, where there are m.
-fn only(e: Entry, m: usize, k: usize) -> Entry
-    ensures { result ≡ cond (eqb m k) e entries.Bad }
+// A line of kind k with its numbers.
+fn shape(k: Kind, numbers: &[u64]) -> Entry
+    ensures { Tells result numbers.now (of_kind k numbers.now) }
 {
-    if m == k { e } else { Entry::Bad }
+    match (k, numbers) {
+        (Kind::House, &[edition, count]) => house(edition, count),
+        (Kind::Pay, &[payer, number, payee, amount]) => Entry::Day(DayLine::Pay(
+            PLAIN, payer, number, payee, amount,
+        )),
+        (Kind::Deposit, &[member, amount]) => Entry::Day(DayLine::Deposit(member, amount)),
+        (Kind::Release, &[member]) => Entry::Day(DayLine::Release(member)),
+        (Kind::Group, [_, ..]) => Entry::Day(DayLine::Group(numbers.len())),
+        (Kind::Resolve, []) => Entry::Day(DayLine::Resolve),
+        (Kind::End, []) => Entry::End,
+        _ => Entry::Bad,
+    }
 }
 
 // A house line with its edition and count.
@@ -277,16 +210,5 @@ fn house(edition: u64, count: u64) -> Entry
         Entry::Opening(OpeningLine::House(count))
     } else {
         Entry::Bad
-    }
-}
-
-// A group line with m counts.
-fn group(m: usize) -> Entry
-    ensures { result ≡ cond (eqb m 0) entries.Bad (entries.Day (days.Group m)) }
-{
-    if m == 0 {
-        Entry::Bad
-    } else {
-        Entry::Day(DayLine::Group(m))
     }
 }

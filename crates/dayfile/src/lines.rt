@@ -1,15 +1,13 @@
 // Bytes in chunks of any size, cut into lines.
-ghost use Rattle.std.specs.Prelude.{◌≡◌, ◌+◌, ◌≤◌, ◌<◌, length, drop};
+ghost use Rattle.std.specs.Prelude.{◌≡◌, ◌+◌, ◌≤◌, ◌<◌, length, drop, IfSome};
 ghost use Rattle.dayfile.specs.Lines.{most_bytes};
-ghost use Rattle.dayfile.specs.Chunks.{pushed, eat_of, state_of, AteSo, EndAt, WholeAt};
+ghost use Rattle.dayfile.specs.Chunks.{pushed, eat_of, state_of, AteSo, WholeAt};
 
 // The most bytes of a line, before the byte 10.
 pub const MOST_BYTES: usize = 400;
 
-// So many bytes are looked at a turn.
-const BLOCK: usize = 16;
-
 // What is held of the line that is not ended: how many bytes stand in the lent buffer, and whether there were more than 400.
+// Kept: both fields are meant in both cases, since a long line's first 400 bytes stay in the buffer (`dayfile::specs::Chunks::state_of`).
 #[derive(Clone, Copy)]
 pub struct Cut {
     pub held: usize,
@@ -17,6 +15,7 @@ pub struct Cut {
 }
 
 // What eating found: whether a line is ended, or only the chunk; the next place; what is held of the line.
+// Kept: the place and what is held are meant in both cases.
 #[derive(Drop)]
 pub struct Ate {
     pub is_done: bool,
@@ -24,96 +23,57 @@ pub struct Ate {
     pub cut: Cut,
 }
 
-// The end of the line from from on, where nothing is held of it and all of it stands in the chunk; or the chunk's end.
-pub fn whole(chunk: &[u8], from: usize, c: Cut) -> usize
+// The end of the line from from on, where nothing is held of it and all of it stands in the chunk.
+pub fn whole(chunk: &[u8], from: usize, c: Cut) -> Option<usize>
     requires { from ≤ length chunk.now }
-    ensures { result < length chunk.now → WholeAt chunk.now from c result }
+    ensures { IfSome result (λ e. (e < length chunk.now) × WholeAt chunk.now from c e) }
 {
-    if c.held > 0 {
-        return chunk.len();
+    if c.held > 0 || c.is_long {
+        return None;
     }
-    if c.is_long {
-        return chunk.len();
-    }
-    let n = line_end(&chunk[from..]);
+    let n = memchr::memchr(b'\n', &chunk[from..])?;
     if n > MOST_BYTES {
-        return chunk.len();
+        return None;
     }
-    from + n
-}
-
-// The place of the first byte 10, or the length where there is none.
-fn line_end(s: &[u8]) -> usize
-    ensures { EndAt s.now result }
-{
-    let n = s.len();
-    let mut i = 0;
-    while n - i >= BLOCK {
-        let k = end_in(&s[i..i + BLOCK]);
-        if k < BLOCK {
-            return i + k;
-        }
-        i += BLOCK;
-    }
-    i + end_in(&s[i..n])
-}
-
-// The same, byte by byte.
-fn end_in(s: &[u8]) -> usize
-    ensures { EndAt s.now result }
-{
-    let mut i = 0;
-    while i < s.len() {
-        if s[i] == 10 {
-            return i;
-        }
-        i += 1;
-    }
-    i
+    Some(from + n)
 }
 
 // Eats the chunk from from on, up to and with the end of a line, or all of it.
-pub fn eat(chunk: &[u8], from: usize, buf: &mut [u8], c: Cut) -> Ate
-    requires { (length buf.old ≡ most_bytes) × (c.held ≤ most_bytes) × (from ≤ length chunk.now) }
+pub fn eat(chunk: &[u8], from: usize, buf: &mut [u8; MOST_BYTES], c: Cut) -> Ate
+    requires { (c.held ≤ most_bytes) × (from ≤ length chunk.now) }
     ensures ate_so { AteSo result (eat_of (drop from chunk.now) (state_of buf.old c)) buf.new from }
     ensures at_in_bounds { (result.at ≤ length chunk.now) × (result.cut.held ≤ most_bytes) }
 {
     let mut t = c;
-    let mut i = from;
-    while i < chunk.len() {
-        let b = chunk[i];
-        if b == 10 {
+    for (k, &b) in chunk[from..].iter().enumerate() {
+        if b == b'\n' {
             return Ate {
                 is_done: true,
-                at: i + 1,
+                at: from + k + 1,
                 cut: t,
             };
         }
         t = push(buf, t, b);
-        i += 1;
     }
     Ate {
         is_done: false,
-        at: i,
+        at: chunk.len(),
         cut: t,
     }
 }
 
 // One byte more of the line that is not ended; past 400 it is only noted that there was one.
-fn push(buf: &mut [u8], c: Cut, b: u8) -> Cut
-    requires { (length buf.old ≡ most_bytes) × (c.held ≤ most_bytes) }
+fn push(buf: &mut [u8; MOST_BYTES], c: Cut, b: u8) -> Cut
+    requires { c.held ≤ most_bytes }
     ensures { (state_of buf.new result ≡ pushed b (state_of buf.old c)) × (result.held ≤ most_bytes) }
 {
-    let held = c.held;
-    if held < MOST_BYTES {
-        buf[held] = b;
-        return Cut {
-            held: held + 1,
-            is_long: c.is_long,
-        };
-    }
-    Cut {
-        held,
-        is_long: true,
+    if c.held < MOST_BYTES {
+        buf[c.held] = b;
+        Cut {
+            held: c.held + 1,
+            ..c
+        }
+    } else {
+        Cut { is_long: true, ..c }
     }
 }

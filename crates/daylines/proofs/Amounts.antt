@@ -22,7 +22,7 @@ use Rattle.tables.specs.Holds.{Payment, Holds}
 use Rattle.tables.proofs.Houses.{queue-each, holds-payment, waiting-sum}
 use Rattle.answers.specs.Codes.{first, is_member}
 use Rattle.settling.specs.Release.{release_act}
-use Rattle.answers.specs.declared.Judged.TheVariants.{Fine}
+use Rattle.std.specs.Prelude.{Ok}
 use Rattle.answers.proofs.Judging.{first_fine, member-in}
 
 total-small : (l : List ℕ) → ((k : ℕ) → k < length l → amount_of (get_or l k 0) ≤ most_amount) → total amount_of l ≤ length l * most_amount
@@ -60,7 +60,7 @@ pub record Heads (T : Tables) (m : ℕ) : Type 0 where
   pub within : m ≤ members_in T
   pub waiting : 0 < waits (house_in T) (m - 1)
 
-pub release-heads : {T : Tables} {m : ℕ} → first ((release_act m).tests T) ≡ Fine → Heads T m
+pub release-heads : {T : Tables} {m : ℕ} → first ((release_act m).tests T) ≡ Ok tt → Heads T m
 unfolding release_act
 release-heads {T} {m} e =
     let f = first_fine ((release_act m).tests T) e in

@@ -15,12 +15,11 @@ use Rattle.tables.specs.Holds.{Accounts, Holds}
 use Rattle.tables.proofs.Balances.{accounts-low, accounts-near, balance-high}
 use Rattle.booking.specs.Booking.{listed}
 use Rattle.booking.proofs.Kept.{booked-holds}
-use Rattle.answers.specs.Codes.{code_of, first}
+use Rattle.answers.specs.Codes.{code_of, first, Judged}
 use Rattle.answers.specs.Outcome.{Act, Outcome, decided, held}
 use Rattle.answers.specs.declared.Refusal.{Refusal}
 use Rattle.answers.specs.declared.Refusal.TheVariants as R
-use Rattle.answers.specs.declared.Judged.{Judged}
-use Rattle.answers.specs.declared.Judged.TheVariants.{Fine, Bad}
+use Rattle.std.specs.Prelude.{Ok, Err}
 use Rattle.entry.specs.Deposit.{deposit_act}
 use Rattle.entry.specs.Submit.{submit_act}
 use Rattle.entry.proofs.Judging.{Deposits, Submits, deposit-fine, submit-fine}
@@ -86,14 +85,14 @@ pub record Kept (u : Outcome Says) : Type 0 where
 module _ (n : ℕ) (few : n < 10 ^ 7) (t : Tables) (h : Holds t) (narrow : (i : ℕ) → get_or t.counters i 0 ≤ last_number) where
   -- a call's line, where it is kept if the request is fine
   act-kept : {A : Type 0} (k : Act A) (say : A → Says) → ((r : Refusal) → say (k.refuse r) ≡ refusal n r)
-      → (first (k.tests t) ≡ Fine → Kept (saying say (k.does t)))
+      → (first (k.tests t) ≡ Ok tt → Kept (saying say (k.does t)))
       → Kept (saying say (held k t))
   unfolding held
   act-kept k say told f = go (first (k.tests t)) refl
     where
       go : (j : Judged) → first (k.tests t) ≡ j → Kept (saying say (decided k t j))
-      go Fine e = f e
-      go (Bad r) e = record { holds = h; ranges = rw (told r) (few, code-small r) }
+      go (Ok u) e = f e
+      go (Err r) e = record { holds = h; ranges = rw (told r) (few, code-small r) }
 
   pay-kept : (m k q x : ℕ) → Kept (pay_does n t m k q x)
   unfolding submit_act

@@ -3,13 +3,13 @@ use mathlib.Core.Path.{◌≡◌, refl, sym, ap, ◌∙◌}
 use mathlib.Core.Bool.{Bool, true, false, cond}
 use mathlib.Core.Logic.{◌⊎◌, inl, inr}
 use mathlib.Core.List.{List}
-use Prim.Native.Nat.{ℕ, ◌+◌, ◌≤◌, ◌<◌}
+use Prim.Native.Nat.{ℕ, ◌≤◌, ◌<◌}
 use native.Mathlib.Omega.{arith}
 use native.Mathlib.Decide.{dec_lt}
 use borrow.Author.Tests.{lt-ltb, le-ltb, leb-true, eq-eqb, eqb-true}
 use lib.Dec.{eqb}
-use lib.ListN.{length, get_or, take, set}
-use lib.Seq.{ext_get_or, get_or-take, length-take-le, get_or-set_same, get_or-set_other}
+use lib.ListN.{length, get_or, take}
+use lib.Seq.{ext_get_or, get_or-take, length-take-le}
 use Rattle.rule.specs.Kernel.{Counts, sum}
 use Rattle.rule.specs.House.{House, waits}
 use Rattle.rule.specs.Verdict.{verdict}
@@ -29,19 +29,11 @@ use Rattle.answers.specs.Outcome.{Outcome, outcome, held}
 use Rattle.answers.specs.Verdicts.{verdict_number, named}
 use Rattle.answers.specs.declared.Refusal.{Refusal}
 use Rattle.answers.specs.declared.Resolution.{Resolution}
-use Rattle.answers.specs.declared.Resolved.{Resolved}
-use Rattle.answers.specs.declared.Resolved.TheVariants.{Done, Refused}
+use Rattle.std.specs.Prelude.{Ok, Err, Result}
 use Rattle.answers.proofs.Outcomes.{held-fine, held-bad}
 use Rattle.daylines.specs.Calls.{most_count, capped, resolution_says, resolve_does}
 
 -- ---- counts in 16 bits
-
-pub least-turn : (counts k : List ℕ) (i x : ℕ) → i < length k → x ≡ capped (get_or counts i 0) → ((j : ℕ) → j < i → get_or k j 0 ≡ capped (get_or counts j 0))
-    → (j : ℕ) → j < i + 1 → get_or (set k i x) j 0 ≡ capped (get_or counts j 0)
-least-turn counts k i x l e f j q = elim (dec_lt j i) [
-  | yes h ↦ get_or-set_other k i j x 0 (λ z. omega arith) ∙ f j h
-  | no h ↦ let z : j ≡ i = omega arith in rw z (get_or-set_same k i x 0 l ∙ e)
-]
 
 least-few : (x w : ℕ) → w ≤ places → capped x ≤ w → x ≡ capped x
 least-few x w f h = elim (dec_lt x most_count) [
@@ -89,18 +81,11 @@ module _ (t : Tables) (h : Holds t) (k w : List ℕ) (same : length w ≡ length
     | inr e ↦ held-bad (group_act w) t (group-bad h w e.1) ∙ sym (held-bad (group_act k) t (group-bad h k e.0))
   ]
 
--- as the code hands them on: the first m of each
-pub group-narrowed : (t : Tables) → Holds t → (m : ℕ) (counts r : List ℕ) → m ≤ members → m ≤ length counts → length r ≡ members
-    → ((i : ℕ) → i < m → get_or r i 0 ≡ capped (get_or counts i 0)) → held (group_act (take m r)) t ≡ held (group_act (take m counts)) t
-group-narrowed t h m counts r few l e f =
-    let u = length-take-le m counts l in
-    let v = length-take-le m r (omega arith) in
-    group-same t h (take m counts) (take m r) (omega arith) at
-  where
-    at : (i : ℕ) → i < length (take m counts) → get_or (take m r) i 0 ≡ capped (get_or (take m counts) i 0)
-    at i q =
-        let j : i < m = omega (arith, length-take-le m counts l) in
-        get_or-take m r i 0 j ∙ f i j ∙ ap capped (sym (get_or-take m counts i 0 j))
+-- as the code hands them on: the first of the array
+pub group-narrowed : (t : Tables) → Holds t → (counts r : List ℕ) → length counts ≤ members → length r ≡ members
+    → ((i : ℕ) → i < length counts → get_or r i 0 ≡ capped (get_or counts i 0)) → held (group_act (take (length counts) r)) t ≡ held (group_act counts) t
+group-narrowed t h counts r few e f =
+    group-same t h counts (take (length counts) r) (length-take-le (length counts) r (omega arith)) (λ i q. get_or-take (length counts) r i 0 q ∙ f i q)
 
 -- ---- the largest allowed set
 
@@ -116,28 +101,28 @@ number-named n H z = go (eqb (sum n (waits H)) 0) (eqb (sum n z) 0) (eqb (sum n 
 
 -- an accepted resolution says and leaves what its line does
 pub resolve-line : (t : Tables) (n : ℕ) (k : List ℕ) → Holds t → length k ≡ members_in t → {x : Resolution} {l : List ℕ} {W : Tables}
-    → outcome (Done x, l) W ≡ held (resolve_act k) t
+    → outcome (Ok x, l) W ≡ held (resolve_act k) t
     → outcome (resolution_says n x) W ≡ resolve_does n t
 unfolding resolve_act
 resolve-line t n k h e {x} {l} {W} o =
-    let d : outcome (Done x, l) W ≡ (resolve_act k).does t = o ∙ held-fine (resolve_act k) t (rw (eq-eqb (length k) (members_in t) e)) in
-    let a : Done x ≡ Done (told (members_in t) (house_in t) (listed (largest_in t))) = ap (λ (u : Outcome (Resolved × List ℕ)). u.answer.0) d in
+    let d : outcome (Ok x, l) W ≡ (resolve_act k).does t = o ∙ held-fine (resolve_act k) t (rw (eq-eqb (length k) (members_in t) e)) in
+    let a : Ok x ≡ Ok (told (members_in t) (house_in t) (listed (largest_in t))) = ap (λ (u : Outcome (Result Resolution Refusal × List ℕ)). u.answer.0) d in
     let y : x ≡ told (members_in t) (house_in t) (listed (largest_in t)) = done-one a in
     let w = resolve-waiting h in
-    ap (λ (W : Tables). outcome (resolution_says n x) W) (ap (λ (u : Outcome (Resolved × List ℕ)). u.after) d)
+    ap (λ (W : Tables). outcome (resolution_says n x) W) (ap (λ (u : Outcome (Result Resolution Refusal × List ℕ)). u.after) d)
     ∙ ap (λ (x : Resolution). outcome (resolution_says n x) (booked_in t (listed (largest_in t)))) y
     ∙ rw (number-named (members_in t) (house_in t) (listed (largest_in t)), w.0, w.1)
   where
-    done-one : {x y : Resolution} → Done x ≡ Done y → x ≡ y
+    done-one : {x y : Resolution} → ◌≡◌ {A = Result Resolution Refusal} (Ok x) (Ok y) → x ≡ y
     done-one e = cc
 
 -- it is never refused where the lent list is as long as the member count
 pub never-refused : (t : Tables) (k : List ℕ) (r : Refusal) → length k ≡ members_in t → {l : List ℕ} {W : Tables}
-    → outcome (Refused r, l) W ≡ held (resolve_act k) t → ⊥
+    → outcome (Err r, l) W ≡ held (resolve_act k) t → ⊥
 unfolding resolve_act
 never-refused t k r e o =
     let d = o ∙ held-fine (resolve_act k) t (rw (eq-eqb (length k) (members_in t) e)) in
-    refused-done (ap (λ (u : Outcome (Resolved × List ℕ)). u.answer.0) d)
+    refused-done (ap (λ (u : Outcome (Result Resolution Refusal × List ℕ)). u.answer.0) d)
   where
-    refused-done : {x : Resolution} → Refused r ≡ Done x → ⊥
+    refused-done : {x : Resolution} → ◌≡◌ {A = Result Resolution Refusal} (Err r) (Ok x) → ⊥
     refused-done e = let z : ◌≡◌ {A = ℕ} 0 1 = cc in omega arith

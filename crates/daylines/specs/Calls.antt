@@ -1,5 +1,5 @@
 -- What is said on the sheet of each call of the day, and the tables after it (document 01, "The day file and the sheet").
-use Rattle.std.specs.Prelude.{cond, List, ℕ, ltb}
+use Rattle.std.specs.Prelude.{cond, List, ℕ, ltb, ℤ, Ok, Err, Result, ⊤}
 use Rattle.std.specs.Int.Count.{ones}
 use Rattle.rule.specs.Kernel.{Counts, sum}
 use Rattle.rule.specs.House.{House, sent}
@@ -11,14 +11,8 @@ use Rattle.answers.specs.Codes.{code_of}
 use Rattle.answers.specs.Outcome.{Outcome, outcome, held}
 use Rattle.answers.specs.Verdicts.{verdict_number}
 use Rattle.answers.specs.declared.Refusal.{Refusal}
-use Rattle.answers.specs.declared.Submitted.{Submitted}
-use Rattle.answers.specs.declared.Submitted.TheVariants as submitting
-use Rattle.answers.specs.declared.Deposited.{Deposited}
-use Rattle.answers.specs.declared.Deposited.TheVariants as depositing
 use Rattle.answers.specs.declared.Released.{Released}
-use Rattle.answers.specs.declared.Released.TheVariants as releasing
 use Rattle.answers.specs.declared.Grouped.{Grouped}
-use Rattle.answers.specs.declared.Grouped.TheVariants as grouping
 use Rattle.answers.specs.declared.Resolution.{Resolution}
 use Rattle.entry.specs.Deposit.{deposit_act}
 use Rattle.entry.specs.Submit.{submit_act}
@@ -37,33 +31,33 @@ refusal n r = S.Refused n (code_of r)
 abbrev pub saying : {A : Type 0} → (A → Says) → Outcome A → Outcome Says
 saying say u = outcome (say u.answer) u.after
 
-abbrev pub pay_says : ℕ → ℕ → ℕ → Submitted → Says
-pay_says n m k submitting.Done = S.Queued n m k
-pay_says n m k (submitting.Refused r) = refusal n r
+abbrev pub pay_says : ℕ → ℕ → ℕ → Result ⊤ Refusal → Says
+pay_says n m k (Ok u) = S.Queued n m k
+pay_says n m k (Err r) = refusal n r
 
 -- payer m gives number k to a payment of x to q
 abbrev pub pay_does : ℕ → Tables → ℕ → ℕ → ℕ → ℕ → Outcome Says
 pay_does n t m k q x = saying (pay_says n m k) (held (submit_act m k q x) t)
 
-abbrev pub deposit_says : ℕ → ℕ → Deposited → Says
-deposit_says n m (depositing.Done b) = S.Deposited n m b
-deposit_says n m (depositing.Refused r) = refusal n r
+abbrev pub deposit_says : ℕ → ℕ → Result ℤ Refusal → Says
+deposit_says n m (Ok b) = S.Deposited n m b
+deposit_says n m (Err r) = refusal n r
 
 -- x is given to member m
 abbrev pub deposit_does : ℕ → Tables → ℕ → ℕ → Outcome Says
 deposit_does n t m x = saying (deposit_says n m) (held (deposit_act m x) t)
 
-abbrev pub release_says : ℕ → Released → Says
-release_says n (releasing.Done m k x) = S.Released n m k x
-release_says n (releasing.Refused r) = refusal n r
+abbrev pub release_says : ℕ → Result Released Refusal → Says
+release_says n (Ok d) = S.Released n d.payer d.number d.amount
+release_says n (Err r) = refusal n r
 
 -- the head of member m
 abbrev pub release_does : ℕ → Tables → ℕ → Outcome Says
 release_does n t m = saying (release_says n) (held (release_act m) t)
 
-abbrev pub group_says : ℕ → Grouped → Says
-group_says n (grouping.Done k x) = S.Group n k x
-group_says n (grouping.Refused r) = refusal n r
+abbrev pub group_says : ℕ → Result Grouped Refusal → Says
+group_says n (Ok d) = S.Group n d.payments d.sum
+group_says n (Err r) = refusal n r
 
 -- that many from each head, as the numbers read say
 abbrev pub group_does : ℕ → Tables → List ℕ → Outcome Says

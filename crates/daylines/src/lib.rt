@@ -1,7 +1,7 @@
 // The lines of the day: each is one call on the tables, and what is said of it on the sheet.
 #![tactic(auto)]
 
-ghost use Rattle.std.specs.Prelude.{◌≡◌, ℕ, ◌≤◌, ◌<◌, length, get_or, take};
+ghost use Rattle.std.specs.Prelude.{◌≡◌, ℕ, ◌≤◌, ◌<◌, length, get_or};
 ghost use Rattle.tables.specs.Sizes.{members};
 ghost use Rattle.tables.specs.Layout.{tables};
 ghost use Rattle.tables.specs.Holds.{Holds};
@@ -9,14 +9,10 @@ ghost use Rattle.answers.specs.Outcome.{outcome};
 ghost use Rattle.dayfile.specs.Reading.{day_meant, day_counts};
 ghost use Rattle.daylines.specs.Calls.{refusal, pay_does, deposit_does, release_does, group_does, resolve_does, capped, resolution_says, call_does};
 
-use answers::{Deposited, Grouped, Refusal, Released, Resolution, Resolved, Submitted};
+use answers::{Refusal, Resolution};
 use dayfile::DayLine;
 use sheet::Says;
 use tables::House;
-use tables::steps::wide;
-
-// The largest count in 16 bits.
-const MOST_COUNT: u64 = 65_535;
 
 // The call that a line of the day asks for, and what is said of it.
 pub fn call(
@@ -34,7 +30,7 @@ pub fn call(
         DayLine::Pay(_, m, k, q, x) => pay(accounts, counters, pays, n, m, k, q, x),
         DayLine::Deposit(m, x) => deposit(accounts, counters, pays, n, m, x),
         DayLine::Release(m) => release(accounts, counters, pays, n, m),
-        DayLine::Group(m) => group(accounts, counters, pays, counts, n, m),
+        DayLine::Group(m) => group(accounts, counters, pays, &counts[..m], n),
         DayLine::Resolve => resolve(accounts, counters, pays, n),
     }
 }
@@ -53,10 +49,9 @@ fn pay(
     requires { Holds (tables accounts.now counters.old pays.old) }
     ensures { outcome result (tables accounts.now counters.new pays.new) ≡ pay_does n (tables accounts.now counters.old pays.old) payer number payee amount }
 {
-    let r = entry::submit::submit(accounts, counters, pays, payer, number, payee, amount);
-    match r {
-        Submitted::Done => Says::Queued(n, payer, number),
-        Submitted::Refused(r) => refused(n, r),
+    match entry::submit::submit(accounts, counters, pays, payer, number, payee, amount) {
+        Ok(()) => Says::Queued(n, payer, number),
+        Err(r) => refused(n, r),
     }
 }
 
@@ -72,10 +67,9 @@ fn deposit(
     requires { Holds (tables accounts.old counters.now pays.now) }
     ensures { outcome result (tables accounts.new counters.now pays.now) ≡ deposit_does n (tables accounts.old counters.now pays.now) member amount }
 {
-    let r = entry::deposit::deposit(accounts, counters, pays, member, amount);
-    match r {
-        Deposited::Done(b) => Says::Deposited(n, member, b),
-        Deposited::Refused(r) => refused(n, r),
+    match entry::deposit::deposit(accounts, counters, pays, member, amount) {
+        Ok(balance) => Says::Deposited(n, member, balance),
+        Err(r) => refused(n, r),
     }
 }
 
@@ -90,69 +84,54 @@ fn release(
     requires { Holds (tables accounts.old counters.old pays.old) }
     ensures { outcome result (tables accounts.new counters.new pays.new) ≡ release_does n (tables accounts.old counters.old pays.old) member }
 {
-    let r = settling::release(accounts, counters, pays, member);
-    match r {
-        Released::Done(payer, number, amount) => Says::Released(n, payer, number, amount),
-        Released::Refused(r) => refused(n, r),
+    match settling::release(accounts, counters, pays, member) {
+        Ok(d) => Says::Released(n, d.payer, d.number, d.amount),
+        Err(r) => refused(n, r),
     }
 }
 
-// A group of m counts, and what is said of it.
+// A group by counts, and what is said of it.
 fn group(
     accounts: &mut [i64],
     counters: &mut [u32],
     pays: &mut [u64],
     counts: &[u64],
     n: u64,
-    m: usize,
 ) -> Says
-    requires { Holds (tables accounts.old counters.old pays.old) × (m ≤ members) × (m ≤ length counts.now) }
-    ensures { outcome result (tables accounts.new counters.new pays.new) ≡ group_does n (tables accounts.old counters.old pays.old) (take m counts.now) }
+    requires { Holds (tables accounts.old counters.old pays.old) × (length counts.now ≤ members) }
+    ensures { outcome result (tables accounts.new counters.new pays.new) ≡ group_does n (tables accounts.old counters.old pays.old) counts.now }
 {
-    let k = narrowed(counts, m);
-    let r = settling::group(accounts, counters, pays, &k[..m]);
-    match r {
-        Grouped::Done(payments, sum) => Says::Group(n, payments, sum),
-        Grouped::Refused(r) => refused(n, r),
+    let k = narrowed(counts);
+    match settling::group(accounts, counters, pays, &k[..counts.len()]) {
+        Ok(d) => Says::Group(n, d.payments, d.sum),
+        Err(r) => refused(n, r),
     }
 }
 
-// The first m counts in 16 bits: one that is above that is above what waits.
-fn narrowed(counts: &[u64], m: usize) -> [u16; House::MEMBERS]
-    requires { (m ≤ members) × (m ≤ length counts.now) }
-    ensures { (length result ≡ members) × ((i : ℕ) → i < m → get_or result i 0 ≡ capped (get_or counts.now i 0)) }
+// The counts in 16 bits: one that is above that is above what waits.
+// Kept: an array of the most members, since the house has no heap; std says nothing of what a `zip` over `iter_mut` leaves.
+fn narrowed(counts: &[u64]) -> [u16; House::MEMBERS]
+    requires { length counts.now ≤ members }
+    ensures { (length result ≡ members) × ((i : ℕ) → i < length counts.now → get_or result i 0 ≡ capped (get_or counts.now i 0)) }
 {
     let mut k = [0u16; House::MEMBERS];
-    let mut i = 0;
-    while i < m {
-        k[i] = narrow(counts[i]);
-        i += 1;
+    for (i, &count) in counts.iter().enumerate() {
+        k[i] = u16::try_from(count).unwrap_or(u16::MAX);
     }
     k
 }
 
-// The smaller of x and the largest count in 16 bits.
-fn narrow(x: u64) -> u16
-    ensures { result ≡ capped x }
-{
-    if x < MOST_COUNT {
-        x as u16
-    } else {
-        MOST_COUNT as u16
-    }
-}
-
 // A resolution, and what is said of it.
+// Kept: room for the counts of the most members, since the house has no heap.
 fn resolve(accounts: &mut [i64], counters: &mut [u32], pays: &mut [u64], n: u64) -> Says
     requires { Holds (tables accounts.old counters.old pays.old) }
     ensures { outcome result (tables accounts.new counters.new pays.new) ≡ resolve_does n (tables accounts.old counters.old pays.old) }
 {
     let mut k = [0u16; House::MEMBERS];
-    let m = wide(counters[0]);
-    let r = resolving::resolve(accounts, counters, pays, &mut k[..m]);
-    match r {
-        Resolved::Done(x) => told(n, x),
-        Resolved::Refused(r) => refused(n, r),
+    let m = counters[House::MEMBERS_AT] as usize;
+    match resolving::resolve(accounts, counters, pays, &mut k[..m]) {
+        Ok(d) => told(n, d),
+        Err(r) => refused(n, r),
     }
 }
 
@@ -160,15 +139,13 @@ fn resolve(accounts: &mut [i64], counters: &mut [u32], pays: &mut [u64], n: u64)
 fn told(n: u64, x: Resolution) -> Says
     ensures { result ≡ resolution_says n x }
 {
-    let v = x.verdict;
-    let w = x.waiting;
     Says::Resolve(
         n,
-        answers::number(v),
+        u64::from(x.verdict),
         x.payments,
         x.sum,
-        sets::size(w) as u64,
-        sets::lowest(w) as u64,
+        u64::from(sets::size(x.waiting)),
+        u64::from(sets::lowest(x.waiting)),
     )
 }
 
@@ -176,5 +153,5 @@ fn told(n: u64, x: Resolution) -> Says
 pub fn refused(n: u64, r: Refusal) -> Says
     ensures { result ≡ refusal n r }
 {
-    Says::Refused(n, answers::code(r) as u64)
+    Says::Refused(n, u64::from(u32::from(r)))
 }

@@ -17,8 +17,7 @@ use Rattle.tables.proofs.Houses.{holds-sound}
 use Rattle.booking.specs.Booking.{listed, booked_in}
 use Rattle.booking.proofs.Kept.{Books, booked-count, booked-last, booked-house, booked-holds}
 use Rattle.answers.specs.Outcome.{Outcome, outcome, decided, judgement, called}
-use Rattle.answers.specs.declared.Resolved.{Resolved}
-use Rattle.answers.specs.declared.Resolved.TheVariants.{Done, Refused}
+use Rattle.std.specs.Prelude.{Ok, Err, Result}
 use Rattle.answers.specs.declared.Resolution.{Resolution}
 use Rattle.answers.specs.declared.Refusal.{Refusal}
 use Rattle.answers.proofs.Outcomes.{done-fine}
@@ -29,8 +28,8 @@ use Rattle.days.proofs.Links.{Carried}
 use Rattle.days.proofs.Chains.{chain-carries}
 
 -- what a resolution tells is no refusal
-done-apart : {x : Resolution} {k l : List ℕ} (r : Refusal) → ◌≢◌ {A = Resolved × List ℕ} (Done x, l) (Refused r, k)
-done-apart {x} r e = let f : Done x ≡ Refused r = ap (λ (p : Resolved × List ℕ). p.0) e in let z : ◌≡◌ {A = ℕ} 0 1 = cc in omega arith
+done-apart : {x : Resolution} {k l : List ℕ} (r : Refusal) → ◌≢◌ {A = Result Resolution Refusal × List ℕ} (Ok x, l) (Err r, k)
+done-apart {x} r e = let f : Ok x ≡ Err r = ap (λ (p : Result Resolution Refusal × List ℕ). p.0) e in let z : ◌≡◌ {A = ℕ} 0 1 = cc in omega arith
 
 -- ---- one stretch
 
@@ -43,8 +42,8 @@ module _ {T W : Tables} {qs : List Request} (h : Holds T) (d : Ended T qs W) whe
   unfolding called resolve_act
   ended_is =
       let k = resolve_act d.given in
-      let f = done-fine k (after_all qs T) (judgement k (after_all qs T)) (outcome (Done d.resolution, d.told) W) done-apart d.last in
-      ap (λ (u : Outcome (Resolved × List ℕ)). u.after) (sym d.last ∙ ap (decided k (after_all qs T)) f)
+      let f = done-fine k (after_all qs T) (judgement k (after_all qs T)) (outcome (Ok d.resolution, d.told) W) done-apart d.last in
+      ap (λ (u : Outcome (Result Resolution Refusal × List ℕ)). u.after) (sym d.last ∙ ap (decided k (after_all qs T)) f)
 
   books : Books (after_all qs T) (listed (largest_in (after_all qs T)))
   books = largest-books eve.stands

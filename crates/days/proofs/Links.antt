@@ -25,10 +25,9 @@ use Rattle.entry.specs.Submit.{submitted_in, submit_act}
 use Rattle.settling.specs.Release.{release_act, only_head}
 use Rattle.settling.specs.Group.{book_act, group_act}
 use Rattle.resolving.specs.Resolve.{resolve_act, largest_in}
-use Rattle.answers.specs.Codes.{first}
+use Rattle.answers.specs.Codes.{first, Judged}
 use Rattle.answers.specs.Outcome.{Act, decided, held, judgement, called}
-use Rattle.answers.specs.declared.Judged.{Judged}
-use Rattle.answers.specs.declared.Judged.TheVariants.{Fine, Bad}
+use Rattle.std.specs.Prelude.{Ok, Err}
 use Rattle.answers.proofs.Outcomes.{judgement-fine}
 use Rattle.entry.proofs.Judging.{Deposits, Submits, deposit-fine, submit-fine}
 use Rattle.entry.proofs.Deposits.{deposits-hold, deposits-counters, deposits-call, deposits-money}
@@ -95,23 +94,23 @@ module _ {T : Tables} (h : Holds T) where
   }
 
 -- a call carries what it does where it is fine
-act-carries : {A : Type 0} (k : Act A) {T : Tables} {cs : List Call} → Holds T → (first (k.tests T) ≡ Fine → Carried T cs (k.does T).after)
+act-carries : {A : Type 0} (k : Act A) {T : Tables} {cs : List Call} → Holds T → (first (k.tests T) ≡ Ok tt → Carried T cs (k.does T).after)
     → Carried T (accepted (judgement k T) cs) (called k T).after
 unfolding called
 act-carries k {T} {cs} h f = go (judgement k T) refl
   where
     go : (j : Judged) → judgement k T ≡ j → Carried T (accepted j cs) (decided k T j).after
-    go Fine e = f (judgement-fine k T e).1
-    go (Bad r) e = refused-carries h
+    go (Ok u) e = f (judgement-fine k T e).1
+    go (Err r) e = refused-carries h
 
 -- a refused open carries nothing
-open-carries : {A : Type 0} (k : Act A) {T : Tables} → Holds T → first (k.tests T) ≢ Fine → Carried T [] (held k T).after
+open-carries : {A : Type 0} (k : Act A) {T : Tables} → Holds T → first (k.tests T) ≢ Ok tt → Carried T [] (held k T).after
 unfolding held
 open-carries k {T} h n = go (first (k.tests T)) n
   where
-    go : (j : Judged) → j ≢ Fine → Carried T [] (decided k T j).after
-    go Fine m = absurd (m refl)
-    go (Bad r) m = refused-carries h
+    go : (j : Judged) → j ≢ Ok tt → Carried T [] (decided k T j).after
+    go (Ok u) m = absurd (m refl)
+    go (Err r) m = refused-carries h
 
 -- a request that was made on a state, and did not open again, is the calls of the rule that it did
 pub link-carries : {T : Tables} → Holds T → (q : Request) → GoesOn q T → Carried T (did q T) (after q T)

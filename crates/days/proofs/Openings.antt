@@ -16,9 +16,8 @@ use Rattle.tables.specs.Layout.{Tables, members_in, house_in, last_of, money_of}
 use Rattle.tables.specs.Holds.{Holds}
 use Rattle.answers.specs.Codes.{first}
 use Rattle.answers.specs.Outcome.{Outcome, outcome, held}
-use Rattle.answers.specs.declared.Judged.TheVariants.{Fine}
-use Rattle.answers.specs.declared.Opened.{Opened}
-use Rattle.answers.specs.declared.Opened.TheVariants.{Done}
+use Rattle.std.specs.Prelude.{Ok, Result}
+use Rattle.answers.specs.declared.Refusal.{Refusal}
 use Rattle.answers.proofs.Outcomes.{held-fine, done-fine}
 use Rattle.opening.specs.Open.{entry, opened_in, open_act}
 use Rattle.opening.proofs.Judging.{Opens, open-fine}
@@ -30,10 +29,10 @@ use Rattle.days.proofs.Demand3.{ended-stands, ended-members, ended-day, equal-qu
 -- ---- one opening
 
 module _ {n : ℕ} {b l : List ℤ} {T : Tables} (o : Begun n b l T) where
-  judged : first ((open_act n b l).tests o.before) ≡ Fine
+  judged : first ((open_act n b l).tests o.before) ≡ Ok tt
   unfolding held open_act
   judged =
-      done-fine (open_act n b l) o.before (first ((open_act n b l).tests o.before)) (outcome (Done o.sum) T)
+      done-fine (open_act n b l) o.before (first ((open_act n b l).tests o.before)) (outcome (Ok o.sum) T)
       (λ r e. let z : ◌≡◌ {A = ℕ} 0 1 = cc in omega arith) o.promise
 
   fine : Opens o.before n b l
@@ -41,7 +40,7 @@ module _ {n : ℕ} {b l : List ℤ} {T : Tables} (o : Begun n b l T) where
 
   begun-is : T ≡ opened_in o.before n b l
   unfolding open_act
-  begun-is = ap (λ (u : Outcome Opened). u.after) (sym o.promise ∙ held-fine (open_act n b l) o.before judged)
+  begun-is = ap (λ (u : Outcome (Result ℤ Refusal)). u.after) (sym o.promise ∙ held-fine (open_act n b l) o.before judged)
 
   -- it leaves a state,
   pub begun-stands : Holds T

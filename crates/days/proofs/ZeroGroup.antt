@@ -33,8 +33,7 @@ use Rattle.settling.proofs.Counts.{listed-zeros}
 use Rattle.settling.proofs.Settles.{covered-allowed, group-tests}
 use Rattle.answers.specs.Codes.{first}
 use Rattle.answers.specs.Outcome.{outcome, called}
-use Rattle.answers.specs.declared.Judged.TheVariants.{Fine}
-use Rattle.answers.specs.declared.Grouped.TheVariants.{Done}
+use Rattle.std.specs.Prelude.{Ok}
 use Rattle.answers.proofs.Outcomes.{called-held, held-fine}
 
 all_stay : (ws : List ℕ) → staying none ws ≡ ws
@@ -110,12 +109,12 @@ module _ {T : Tables} (h : Holds T) where
   zeros-covered : is_covered (members_in T) (house_in T) (listed zeros) ≡ true
   zeros-covered = rw (listed-zeros (members_in T)) ((covered-allowed (members_in T) (house_in T) none none-under).1 (none_allowed (holds-sound h)))
 
-  zeros-fine : first ((group_act zeros).tests T) ≡ Fine
+  zeros-fine : first ((group_act zeros).tests T) ≡ Ok tt
   unfolding book_act
   zeros-fine = sym (group-tests h zeros zeros-counts) ∙ rw zeros-covered
 
   -- accepted, with no payment and no sum told, and the tables as they were
-  pub zero-group : called (group_act zeros) T ≡ outcome (Done 0 0) T
+  pub zero-group : called (group_act zeros) T ≡ outcome (Ok (record { payments = 0; sum = 0 })) T
   unfolding group_act book_act sent worth
   zero-group =
       called-held (group_act zeros) T (holds-state h)

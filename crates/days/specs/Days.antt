@@ -1,5 +1,5 @@
 -- Days over the real tables: the requests that were made, one after the other, and what they did (demand 3).
-use Rattle.std.specs.Prelude.{◌≡◌, ◌≢◌, List, [], ◌∷◌, ◌++◌, ℕ, suc, ◌-◌, ◌<◌, ℤ}
+use Rattle.std.specs.Prelude.{◌≡◌, ◌≢◌, List, [], ◌∷◌, ◌++◌, ℕ, suc, ◌-◌, ◌<◌, ℤ, Ok, Err}
 use Rattle.rule.specs.Ints.{up}
 use Rattle.rule.specs.Payment.{word, payer_of, payee_of, amount_of}
 use Rattle.rule.specs.House.{House, Same}
@@ -13,12 +13,8 @@ use Rattle.entry.specs.Submit.{submit_act}
 use Rattle.settling.specs.Release.{release_act, only_head}
 use Rattle.settling.specs.Group.{group_act}
 use Rattle.resolving.specs.Resolve.{resolve_act, largest_in}
-use Rattle.answers.specs.Codes.{first}
+use Rattle.answers.specs.Codes.{first, Judged}
 use Rattle.answers.specs.Outcome.{outcome, held, judgement, called}
-use Rattle.answers.specs.declared.Judged.{Judged}
-use Rattle.answers.specs.declared.Judged.TheVariants.{Fine, Bad}
-use Rattle.answers.specs.declared.Opened.TheVariants as opening
-use Rattle.answers.specs.declared.Resolved.TheVariants.{Done}
 use Rattle.answers.specs.declared.Resolution.{Resolution}
 
 -- ---- a day
@@ -43,8 +39,8 @@ after (resolves k) T = (called (resolve_act k) T).after
 
 -- nothing where it was refused
 abbrev pub accepted : Judged → List Call → List Call
-accepted Fine cs = cs
-accepted (Bad r) cs = []
+accepted (Ok u) cs = cs
+accepted (Err r) cs = []
 
 -- what it did inside a day, in the rule's words
 abbrev pub did : Request → Tables → List Call
@@ -57,7 +53,7 @@ did (resolves k) T = accepted (judgement (resolve_act k) T) (settle (listed (lar
 
 -- it does not open again: an open is refused
 abbrev pub GoesOn : Request → Tables → Type 0
-GoesOn (opens n b l) T = first ((open_act n b l).tests T) ≢ Fine
+GoesOn (opens n b l) T = first ((open_act n b l).tests T) ≢ Ok tt
 GoesOn (deposits m x) T = Unit {0}
 GoesOn (submits m n q x) T = Unit {0}
 GoesOn (releases m) T = Unit {0}
@@ -84,7 +80,7 @@ pub record Ended (T : Tables) (qs : List Request) (W : Tables) : Type 0 where
   pub given : List ℕ
   pub told : List ℕ
   pub resolution : Resolution
-  pub last : called (resolve_act given) (after_all qs T) ≡ outcome (Done resolution, told) W
+  pub last : called (resolve_act given) (after_all qs T) ≡ outcome (Ok resolution, told) W
 
 -- ---- the opening of a day
 
@@ -96,7 +92,7 @@ opening_of b l = record { line = λ i. up (entry l i); balance = entry b; queue 
 pub record Begun (n : ℕ) (b l : List ℤ) (T : Tables) : Type 0 where
   pub before : Tables
   pub sum : ℤ
-  pub promise : held (open_act n b l) before ≡ outcome (opening.Done sum) T
+  pub promise : held (open_act n b l) before ≡ outcome (Ok sum) T
 
 -- ---- what is compared
 

@@ -4,11 +4,10 @@ use mathlib.Core.Bool.{Bool, true, false, cond}
 use Prim.Native.Nat.{ℕ}
 use lib.ListN.{length}
 use Rattle.tables.specs.Layout.{Tables}
-use Rattle.answers.specs.Codes.{code_of, first}
+use Rattle.answers.specs.Codes.{code_of, first, Judged}
 use Rattle.answers.specs.Outcome.{Outcome, Act, decided, held, judgement, called}
 use Rattle.answers.specs.declared.Refusal.{Refusal}
-use Rattle.answers.specs.declared.Judged.{Judged}
-use Rattle.answers.specs.declared.Judged.TheVariants.{Fine, Bad}
+use Rattle.std.specs.Prelude.{Ok, Err}
 use Rattle.opening.specs.Open.{open_act}
 use Rattle.entry.specs.Deposit.{deposit_act}
 use Rattle.entry.specs.Submit.{submit_act}
@@ -33,8 +32,8 @@ module _ (x : Lent) where
   module _ {A : Type 0} (k : Act A) (tell : A → Told) (refuses : (r : Refusal) → tell (k.refuse r) ≡ no r)
       (accepts : (T : Tables) → code_told (tell (k.does T).answer) ≡ 0) where
     judged-code : (j : Judged) → let u = decided k (tables_in x.tables) j in (written x u.after (tell u.answer)).0 ≡ code_in j
-    judged-code Fine = let u = k.does (tables_in x.tables) in written-code u.after (tell u.answer) ∙ accepts (tables_in x.tables)
-    judged-code (Bad r) = written-code (tables_in x.tables) (tell (k.refuse r)) ∙ ap code_told (refuses r)
+    judged-code (Ok u) = let u = k.does (tables_in x.tables) in written-code u.after (tell u.answer) ∙ accepts (tables_in x.tables)
+    judged-code (Err r) = written-code (tables_in x.tables) (tell (k.refuse r)) ∙ ap code_told (refuses r)
 
     reply-code : (m : ℕ) (f : Tables → Outcome A) (j : Judged) → f (tables_in x.tables) ≡ decided k (tables_in x.tables) j
         → (reply m tell f x).0 ≡ cond (roomy (length x.tables) (length x.answer) m) (code_in j) 1

@@ -28,9 +28,8 @@ use Rattle.answers.specs.Outcome.{Act, outcome, decided, held, judgement, called
 use Rattle.answers.specs.Verdicts.{verdict_number}
 use Rattle.answers.specs.declared.Refusal.{Refusal}
 use Rattle.answers.specs.declared.Refusal.TheVariants.{State}
-use Rattle.answers.specs.declared.Judged.TheVariants.{Fine, Bad}
+use Rattle.std.specs.Prelude.{Ok, Err}
 use Rattle.answers.specs.declared.Resolution.{Resolution}
-use Rattle.answers.specs.declared.Resolved.TheVariants.{Done}
 use Rattle.answers.proofs.Judging.{Given, first-bad, bad-first}
 use Rattle.answers.proofs.Outcomes.{held-bad}
 use Rattle.opening.specs.Open.{open_act}
@@ -75,16 +74,16 @@ use Rattle.demands.proofs.Settling.{booked-settles, resolve-answers, resolve-set
 -- refused by its own code, exactly under its condition when no earlier applies, and a refused call changes nothing it was lent.
 
 -- tables: the code of a refusal is the first of the call's, code 1 before them, whose condition holds;
-pub tables-code-exact : {A : Type 0} (k : Act A) (T : Tables) (r : Refusal) → (judgement k T ≡ Bad r) ↔ Given (test (not (is_state T)) State ∷ k.tests T) r
+pub tables-code-exact : {A : Type 0} (k : Act A) (T : Tables) (r : Refusal) → (judgement k T ≡ Err r) ↔ Given (test (not (is_state T)) State ∷ k.tests T) r
 tables-code-exact k T r = (first-bad (test (not (is_state T)) State ∷ k.tests T) r, bad-first)
 
 -- then that is the answer, and the tables are as they were;
-pub tables-refused : {A : Type 0} (k : Act A) (T : Tables) {r : Refusal} → judgement k T ≡ Bad r → called k T ≡ outcome (k.refuse r) T
+pub tables-refused : {A : Type 0} (k : Act A) (T : Tables) {r : Refusal} → judgement k T ≡ Err r → called k T ≡ outcome (k.refuse r) T
 unfolding called
 tables-refused k T e = ap (decided k T) e
 
 -- and where no condition holds the call does what it says
-pub tables-accepted : {A : Type 0} (k : Act A) (T : Tables) → judgement k T ≡ Fine → called k T ≡ k.does T
+pub tables-accepted : {A : Type 0} (k : Act A) (T : Tables) → judgement k T ≡ Ok tt → called k T ≡ k.does T
 unfolding called
 tables-accepted k T e = ap (decided k T) e
 
@@ -102,7 +101,7 @@ bytes-refused = refused-changes-nothing
 
 -- day files: a line is judged by its call on the tables that it finds, and a stray or bad line is 12; where that refuses it, it prints
 -- `refused` with the code and changes nothing, and the day goes on;
-pub files-refused : {T : Tables} → Holds T → (i : ℕ) (e : Entry) {r : Refusal} → judged_line T e ≡ Bad r → day_does i T e ≡ says (refusal i r) ItIsDay T
+pub files-refused : {T : Tables} → Holds T → (i : ℕ) (e : Entry) {r : Refusal} → judged_line T e ≡ Err r → day_does i T e ≡ says (refusal i r) ItIsDay T
 files-refused h i e q = line_refused h i e q
 
 -- and the tables that it finds, after any first lines of the day, hold a state
@@ -121,8 +120,8 @@ pub the-largest-set : {n : ℕ} {H : House} {z y : Counts} → LargestSet n H z 
 the-largest-set = largest-one
 
 -- tables: an accepted resolution books it, and its answer has the verdict;
-pub tables-settle : (c : List ℕ) (T : Tables) → judgement (resolve_act c) T ≡ Fine
-    → (x : Resolution) × ((called (resolve_act c) T).answer.0 ≡ Done x) × Settles T (called (resolve_act c) T).after (verdict_number x.verdict)
+pub tables-settle : (c : List ℕ) (T : Tables) → judgement (resolve_act c) T ≡ Ok tt
+    → (x : Resolution) × ((called (resolve_act c) T).answer.0 ≡ Ok x) × Settles T (called (resolve_act c) T).after (verdict_number x.verdict)
 tables-settle c T e = (told_in T, ap (λ a. a.0) (resolve-answers c T e), resolve-settles c T e)
 
 -- bytes: so does one with code 0, and the verdict is the first part of the answer

@@ -9,8 +9,7 @@ use Rattle.sheet.specs.declared.Says.{Says}
 use Rattle.sheet.specs.Lines.{text_of}
 use Rattle.sheet.specs.Room.{least_room, Ranges}
 use Rattle.sheet.proofs.Room.{wrote-within, wrote-used}
-use Rattle.night.specs.declared.Said.{Said}
-use Rattle.night.specs.declared.Said.TheVariants as D
+use Rattle.std.specs.Prelude.{Option, Some}
 use Rattle.night.specs.Lines.{said_in}
 use Rattle.night.specs.Stands.{SaidRanges}
 use Rattle.desk.specs.States.{Grown}
@@ -43,5 +42,5 @@ grown-more {u} {v} {w} {out} {out₁} a b =
     }
 
 -- a line that is said is in its ranges
-pub said-ranges : (g : Said) (s : Says) → g ≡ D.One s → SaidRanges (said_in g) → Ranges s
-said-ranges g s e r = (subst (λ (x : Said). SaidRanges (said_in x)) e r).0
+pub said-ranges : (g : Option Says) (s : Says) → g ≡ Some s → SaidRanges (said_in g) → Ranges s
+said-ranges g s e r = (subst (λ (x : Option Says). SaidRanges (said_in x)) e r).0

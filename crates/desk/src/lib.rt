@@ -1,4 +1,6 @@
 // A line of the night, with lent lists: the next line of a chunk is read and answered, or the next line of the end is said, into a lent output.
+// Kept: the tables stay three lent slices (document 01); with a struct of `&mut` fields each function would promise that they stay the same.
+// So what a state asks of them (`Fit`), what was read (`Read`) and the room in the lent output stand in each contract.
 #![tactic(auto)]
 
 pub mod chunks;
@@ -9,8 +11,16 @@ mod out;
 ghost use Rattle.std.specs.Prelude.{◌≡◌};
 ghost use Rattle.desk.specs.States.{state_at};
 
-use dayfile::lines::Cut;
+use dayfile::MOST_COUNTS;
+use dayfile::lines::{Cut, MOST_BYTES};
 use night::Stage;
+
+// Memory for the line that is read: its bytes, while it is not ended, and the counts of a group.
+#[derive(Drop)]
+pub struct Buffers {
+    pub line: [u8; MOST_BYTES],
+    pub counts: [u64; MOST_COUNTS],
+}
 
 // The night between lines: lines read, where it stands, bytes of the output used, and what is held of the next line.
 #[derive(Clone, Copy)]
@@ -32,14 +42,13 @@ pub struct Turn {
 pub fn between(lines: u64, stage: Stage, used: usize) -> State
     ensures { result ≡ state_at lines stage used }
 {
-    let cut = Cut {
-        held: 0,
-        is_long: false,
-    };
     State {
         lines,
         stage,
         used,
-        cut,
+        cut: Cut {
+            held: 0,
+            is_long: false,
+        },
     }
 }

@@ -8,7 +8,7 @@ ghost use Rattle.night.specs.declared.Stage.TheVariants.{Over};
 ghost use Rattle.tables.specs.Layout.{tables};
 ghost use Rattle.daylines.specs.Calls.{refusal};
 ghost use Rattle.night.specs.Lines.{does_of};
-ghost use Rattle.dayfile.specs.Entries.{most_lines, most_counts};
+ghost use Rattle.dayfile.specs.Entries.{most_lines};
 ghost use Rattle.dayfile.specs.Reading.{meant, Tells, Read};
 ghost use Rattle.night.specs.Stages.{is_over};
 ghost use Rattle.desk.specs.Sheet.{entry_in, after_line, answered};
@@ -16,15 +16,16 @@ ghost use Rattle.desk.specs.States.{night_of, fresh, state_at, Grown, Fit};
 
 use crate::out::tell;
 use crate::{State, between};
-use dayfile::Entry;
+use answers::Refusal;
 use dayfile::lines::Cut;
+use dayfile::{Entry, MOST_COUNTS, MOST_LINES};
 use night::Stage;
-use sheet::Says;
 
 // A line is ended, and answered.
+// Kept: the line is what `held_line` makes of the lent bytes and the cut beside them, wherever they stand.
 pub fn line_on(
     buf: &[u8],
-    counts: &mut [u64],
+    counts: &mut [u64; MOST_COUNTS],
     accounts: &mut [i64],
     counters: &mut [u32],
     pays: &mut [u64],
@@ -32,11 +33,11 @@ pub fn line_on(
     s: State,
 ) -> State
     requires fit { Fit s (tables accounts.old counters.old pays.old) (length out.old) × (is_over s.stage ≡ false) }
-    requires lengths { (length counts.old ≡ most_counts) × (s.cut.held ≤ length buf.now) × (s.used + least_room ≤ length out.old) }
+    requires lengths { (s.cut.held ≤ length buf.now) × (s.used + least_room ≤ length out.old) }
     ensures out_after { night_of result (tables accounts.new counters.new pays.new) out.new ≡ answered (night_of s (tables accounts.old counters.old pays.old) out.old) (held_line (state_of buf.now s.cut)) }
     ensures fits { Fit result (tables accounts.new counters.new pays.new) (length out.old) × (result.cut ≡ fresh) × Grown s.used result.used out.old out.new }
 {
-    if s.lines < dayfile::MOST_LINES {
+    if s.lines < MOST_LINES {
         let e = read(buf, s.cut, counts);
         return take_line(counts, accounts, counters, pays, out, s, e);
     }
@@ -44,15 +45,14 @@ pub fn line_on(
 }
 
 // What the line says that the buffer holds. A group's counts are left in the lent list.
-fn read(buf: &[u8], c: Cut, counts: &mut [u64]) -> Entry
-    requires { (length counts.old ≡ most_counts) × (c.held ≤ length buf.now) }
+fn read(buf: &[u8], c: Cut, counts: &mut [u64; MOST_COUNTS]) -> Entry
+    requires { c.held ≤ length buf.now }
     ensures { Tells result counts.new (entry_in (held_line (state_of buf.now c))) }
 {
     if c.is_long {
         return Entry::Bad;
     }
-    let held = c.held;
-    dayfile::read_line(&buf[..held], counts)
+    dayfile::read_line(&buf[..c.held], counts)
 }
 
 // The next line is taken: what it does, and what it says.
@@ -70,12 +70,9 @@ fn take_line(
     ensures fit { Fit result (tables accounts.new counters.new pays.new) (length out.old) × (result.cut ≡ fresh) × Grown s.used result.used out.old out.new }
 {
     let n = s.lines + 1;
-    let stage = s.stage;
-    let d = night::answer(accounts, counters, pays, counts, stage, n, e);
-    let said = d.said;
-    let used = tell(out, s.used, said);
-    let next = d.stage;
-    between(n, next, used)
+    let d = night::answer(accounts, counters, pays, counts, s.stage, n, e);
+    let used = tell(out, s.used, d.said);
+    between(n, d.stage, used)
 }
 
 // Bad line n: it is refused, and the night stops.
@@ -83,6 +80,6 @@ pub fn stop(out: &mut [u8], s: State, n: u64) -> State
     requires { (n ≤ most_lines + 1) × (s.used + least_room ≤ length out.old) }
     ensures { (result ≡ state_at s.lines Over result.used) × (take result.used out.new ≡ take s.used out.old ++ text_of (refusal n Line)) × (result.used ≤ length out.old) × Grown s.used result.used out.old out.new }
 {
-    let used = sheet::put_line(out, s.used, Says::Refused(n, 12));
+    let used = sheet::put_line(out, s.used, daylines::refused(n, Refusal::Line));
     between(s.lines, Stage::Over, used)
 }

@@ -11,7 +11,7 @@ use Rattle.tables.specs.Sizes.{places, most, last_number, most_amount}
 use Rattle.tables.specs.Layout.{Tables, members_in, waiting_in, last_of, money_of}
 use Rattle.tables.proofs.Tests.{and_both, le-true}
 use Rattle.answers.specs.Codes.{first, is_member, is_amount}
-use Rattle.answers.specs.declared.Judged.TheVariants.{Fine}
+use Rattle.std.specs.Prelude.{Ok}
 use Rattle.answers.proofs.Judging.{first_fine, member-in, amount-in}
 use Rattle.entry.specs.Deposit.{deposit_tests, deposit_act}
 use Rattle.entry.specs.Submit.{is_next, submit_tests, submit_act}
@@ -27,7 +27,7 @@ pub record Deposits (T : Tables) (m x : ℕ) : Type 0 where
   pub sum : (money_of T.accounts +ℤ pos x) ≤ℤ pos most
 
 -- tests that find nothing say so
-pub deposit-fine : {T : Tables} {m x : ℕ} → first ((deposit_act m x).tests T) ≡ Fine → Deposits T m x
+pub deposit-fine : {T : Tables} {m x : ℕ} → first ((deposit_act m x).tests T) ≡ Ok tt → Deposits T m x
 unfolding deposit_act
 deposit-fine {T} {m} {x} e =
     let f = first_fine (deposit_tests T.accounts T.counters m x) e in
@@ -52,7 +52,7 @@ pub record Submits (T : Tables) (m n q x : ℕ) : Type 0 where
   pub room : waiting_in T < places
 
 -- tests that find nothing say so
-pub submit-fine : {T : Tables} {m n q x : ℕ} → first ((submit_act m n q x).tests T) ≡ Fine → Submits T m n q x
+pub submit-fine : {T : Tables} {m n q x : ℕ} → first ((submit_act m n q x).tests T) ≡ Ok tt → Submits T m n q x
 unfolding submit_act
 submit-fine {T} {m} {n} {q} {x} e =
     let f = first_fine (submit_tests T.counters m n q x) e in

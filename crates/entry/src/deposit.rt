@@ -8,11 +8,10 @@ ghost use Rattle.answers.specs.Codes.{first};
 ghost use Rattle.answers.specs.Outcome.{outcome, held};
 ghost use Rattle.entry.specs.Deposit.{deposit_tests, deposit_act};
 
+use answers::Refusal;
 use answers::judge::{is_amount, is_member};
-use answers::{Deposited, Judged, Refusal};
 use tables::House;
 use tables::look::total;
-use tables::steps::{at_most, plus, signed};
 
 // A deposit to a member.
 pub fn deposit(
@@ -21,32 +20,35 @@ pub fn deposit(
     pays: &[u64],
     member: u64,
     amount: u64,
-) -> Deposited
+) -> Result<i64, Refusal>
     requires { Holds (tables accounts.old counters.now pays.now) }
     ensures { outcome result (tables accounts.new counters.now pays.now) ≡ held (deposit_act member amount) (tables accounts.old counters.now pays.now) }
 {
-    let j = judge_deposit(accounts, counters, member, amount);
-    match j {
-        Judged::Bad(r) => Deposited::Refused(r),
-        Judged::Fine => Deposited::Done(credit(accounts, (member - 1) as usize, amount)),
-    }
+    judge_deposit(accounts, counters, member, amount)?;
+    Ok(credit(accounts, (member - 1) as usize, amount))
 }
 
-fn judge_deposit(accounts: &[i64], counters: &[u32], member: u64, amount: u64) -> Judged
+// Codes 2, 4 and 7.
+fn judge_deposit(
+    accounts: &[i64],
+    counters: &[u32],
+    member: u64,
+    amount: u64,
+) -> Result<(), Refusal>
     requires { Counters counters.now × Accounts (count_of counters.now) accounts.now }
     ensures { result ≡ first (deposit_tests accounts.now counters.now member amount) }
 {
     if !is_member(counters, member) {
-        return Judged::Bad(Refusal::Member);
+        return Err(Refusal::Member);
     }
     if !is_amount(amount) {
-        return Judged::Bad(Refusal::Amount);
+        return Err(Refusal::Amount);
     }
-    let sum = plus(total(accounts, House::MEMBERS), signed(amount));
-    if !at_most(sum, signed(House::MOST)) {
-        return Judged::Bad(Refusal::Money);
+    let sum = total(accounts, House::MEMBERS) + amount as i64;
+    if sum > House::MOST as i64 {
+        return Err(Refusal::Money);
     }
-    Judged::Fine
+    Ok(())
 }
 
 // Adds the amount to one balance, and answers the new one.
@@ -56,7 +58,6 @@ fn credit(accounts: &mut [i64], seat: usize, amount: u64) -> i64
     ensures value { result ≡ balance_of accounts.old seat +ℤ pos amount }
     ensures accounts_after { accounts.new ≡ set accounts.old seat (balance_of accounts.old seat +ℤ pos amount) }
 {
-    let b = plus(accounts[seat], signed(amount));
-    accounts[seat] = b;
-    b
+    accounts[seat] += amount as i64;
+    accounts[seat]
 }

@@ -8,12 +8,12 @@ ghost use Rattle.answers.specs.Codes.{first};
 ghost use Rattle.answers.specs.Outcome.{outcome, held};
 ghost use Rattle.entry.specs.Submit.{is_next, submit_tests, submit_act};
 
+use answers::Refusal;
 use answers::judge::{is_amount, is_member};
-use answers::{Judged, Refusal, Submitted};
 use tables::House;
-use tables::steps::wide;
 
 // A payment at the tail of its payer's queue.
+// Kept: a payment is told in four numbers, as the export for C and `submit_act` have them.
 pub fn submit(
     accounts: &[i64],
     counters: &mut [u32],
@@ -22,58 +22,55 @@ pub fn submit(
     number: u64,
     payee: u64,
     amount: u64,
-) -> Submitted
+) -> Result<(), Refusal>
     requires { Holds (tables accounts.now counters.old pays.old) }
     ensures { outcome result (tables accounts.now counters.new pays.new) ≡ held (submit_act payer number payee amount) (tables accounts.now counters.old pays.old) }
 {
-    let j = judge_submit(counters, payer, number, payee, amount);
-    match j {
-        Judged::Bad(r) => Submitted::Refused(r),
-        Judged::Fine => {
-            let at = wide(counters[House::WAITING_AT]);
-            append(pays, at, payment(payer, payee, amount));
-            accept(counters, payer, number);
-            Submitted::Done
-        }
-    }
+    judge_submit(counters, payer, number, payee, amount)?;
+    let at = counters[House::WAITING_AT] as usize;
+    pays[at] = payment(payer, payee, amount);
+    accept(counters, payer, number);
+    Ok(())
 }
 
-fn judge_submit(counters: &[u32], payer: u64, number: u64, payee: u64, amount: u64) -> Judged
+// Codes 2 to 6.
+fn judge_submit(
+    counters: &[u32],
+    payer: u64,
+    number: u64,
+    payee: u64,
+    amount: u64,
+) -> Result<(), Refusal>
     requires { (table ≤ length counters.now) × (count_of counters.now ≤ members) }
     ensures { result ≡ first (submit_tests counters.now payer number payee amount) }
 {
-    if !is_member(counters, payer) {
-        return Judged::Bad(Refusal::Member);
-    }
-    if !is_member(counters, payee) {
-        return Judged::Bad(Refusal::Member);
+    if !is_member(counters, payer) || !is_member(counters, payee) {
+        return Err(Refusal::Member);
     }
     if payer == payee {
-        return Judged::Bad(Refusal::Same);
+        return Err(Refusal::Same);
     }
     if !is_amount(amount) {
-        return Judged::Bad(Refusal::Amount);
+        return Err(Refusal::Amount);
     }
     if !is_next(counters, payer, number) {
-        return Judged::Bad(Refusal::Number);
+        return Err(Refusal::Number);
     }
-    if wide(counters[House::WAITING_AT]) >= House::PLACES {
-        return Judged::Bad(Refusal::Full);
+    if counters[House::WAITING_AT] as usize >= House::PLACES {
+        return Err(Refusal::Full);
     }
-    Judged::Fine
+    Ok(())
 }
 
 // The number is the one that the payer gives next.
+// Kept: that payer and payee are members is what `judge_submit` finds of their numbers, so it is asked of three functions.
 fn is_next(counters: &[u32], payer: u64, number: u64) -> bool
     requires { (table ≤ length counters.now) × (1 ≤ payer) × (payer ≤ members) }
     ensures { result ≡ is_next counters.now payer number }
 {
     let seat = (payer - 1) as usize;
-    let last = wide(counters[House::LASTS_AT + seat]) as u64;
-    if number != last + 1 {
-        return false;
-    }
-    number <= House::LAST_NUMBER
+    let last = u64::from(counters[House::LASTS_AT + seat]);
+    number == last + 1 && number <= House::LAST_NUMBER
 }
 
 // The word of a payment.
@@ -92,12 +89,4 @@ fn accept(counters: &mut [u32], payer: u64, number: u64)
     let seat = (payer - 1) as usize;
     counters[House::WAITING_AT] += 1;
     counters[House::LASTS_AT + seat] = number as u32;
-}
-
-// The payment stands in its place.
-fn append(pays: &mut [u64], at: usize, payment: u64)
-    requires { at < length pays.old }
-    ensures { pays.new ≡ set pays.old at payment }
-{
-    pays[at] = payment;
 }

@@ -17,7 +17,7 @@ use Rattle.settling.specs.Release.{release_act}
 use Rattle.resolving.specs.Resolve.{largest_in}
 use Rattle.sets.specs.Sets.{size_of, lowest_of}
 use Rattle.numbers.specs.Numbers.{digits_from, last_digits, width_up_to}
-use Rattle.dayfile.specs.Fields.{fields_of, same}
+use Rattle.dayfile.specs.Fields.{fields_of}
 use Rattle.dayfile.specs.Entries.{numbers_of}
 use Rattle.sheet.specs.Lines.{tabbed}
 use Rattle.dayfile.specs.Lines.{lines_from}
@@ -51,6 +51,6 @@ example_sheet =
     109 ∷ 111 ∷ 110 ∷ 101 ∷ 121 ∷ 9 ∷ 49 ∷ 48 ∷ 10 ∷ []
 
 pub example-computes : sheet_of example_file ≡ example_sheet
-unfolding run_of lines_from fields_of same numbers_of digits_from last_digits width_up_to tabbed held open_act opened_in fill listing fill_at every
+unfolding run_of lines_from fields_of numbers_of digits_from last_digits width_up_to tabbed held open_act opened_in fill listing fill_at every
     submit_act submitted_in release_act largest_in resolution put sent received worth payee_of payer_of amount_of flags_of booked_in size_of lowest_of
 example-computes = refl

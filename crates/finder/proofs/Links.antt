@@ -9,7 +9,7 @@ use lib.ListN.{length, get_or, set, length-set}
 use lib.Seq.{get_or-set_same, get_or-set_other}
 use Rattle.rule.specs.Payment.{payer_of}
 use Rattle.tables.specs.Sizes.{members}
-use Rattle.finder.specs.Tops.{Behind, NoneIn, AllIn, Linked}
+use Rattle.finder.specs.Tops.{Behind, AllIn, Linked}
 use Rattle.finder.proofs.Tops.{payer-under, queue-other}
 
 -- what holds of the first places holds of fewer
@@ -21,25 +21,7 @@ linked-below l h = record {
   same = λ m k. l.same m (omega arith);
 }
 
--- ---- no payment is in
-
-pub none-next : (i : ℕ) (ts : List ℕ) → i < length ts → ((k : ℕ) → k < i → get_or ts k 0 ≡ 0) → (k : ℕ) → k < i + 1 → get_or (set ts i 0) k 0 ≡ 0
-none-next i ts h f k l = elim (ℕ_discrete k i) [
-  | yes e ↦ rw e (get_or-set_same ts i 0 0 h)
-  | no e ↦ rw (get_or-set_other ts i k 0 0 e) (f k (omega arith))
-]
-
 -- ---- the links, place by place
-
-pub all-in-start : {pays ts : List ℕ} → NoneIn ts → AllIn 0 pays ts
-all-in-start n = record {
-  topped = record { places = omega arith; each = n.each; within = λ i h. omega (arith, n.none i h) };
-  behind = λ i h s. absurd (omega (arith, n.none i h));
-  whole = λ i h. rw (n.none i h);
-}
-
-pub linked-start : {pays befores : List ℕ} → Linked 0 pays befores
-linked-start = record { each = omega arith; back = λ m h. absurd (omega arith); behind = λ m h. absurd (omega arith); same = λ m h. absurd (omega arith) }
 
 behind-next : (pays : List ℕ) (m : ℕ) → Behind pays (payer_of (get_or pays m 0)) (m + 1)
 behind-next pays m h = let e : m + 1 - 1 ≡ m = omega arith in rw e

@@ -54,16 +54,7 @@ farther : (x y : ℤ) (a b c : ℕ) → up y + (down x + b) ≡ up x + a + down 
 farther x (pos y) a b c e f g = omega arith
 farther x (negsuc y) a b c e f g = omega arith
 
-pub minus-far : (a : ℕ) → far (pos 0 -ℤ pos a) ≤ a
-minus-far a = omega (arith, farther (pos 0) (pos 0 -ℤ pos a) 0 a a (omega (arith, minus (pos 0) (pos a))) (omega arith) (omega arith))
-
 module _ (xs : List ℤ) (giver taker amount i : ℕ) (g : giver < length xs) where
-  pub given-far : far (get_or (added xs giver (pos 0 -ℤ pos amount)) i (pos 0)) ≤ far (get_or xs i (pos 0)) + amount
-  given-far =
-      let x = get_or xs i (pos 0) in
-      let b : ℕ = cond (eqb giver i) amount 0 in
-      rw (given-at xs giver taker amount i g) (farther x (x -ℤ pos b) 0 b amount (omega (arith, minus x (pos b))) (omega arith) (part (eqb giver i) amount))
-
   pub moved-far : taker < length xs → far (get_or (moved xs giver taker amount) i (pos 0)) ≤ far (get_or xs i (pos 0)) + amount
   moved-far t =
       let x = get_or xs i (pos 0) in

@@ -1,5 +1,5 @@
 -- With every payment entered and in, the finder can start; so what it finds is the largest set of the house that the lists hold.
-use mathlib.Core.Path.{◌≡◌, refl, ◌∙◌}
+use mathlib.Core.Path.{◌≡◌, refl, ap, ◌∙◌}
 use mathlib.Core.Bool.{Bool, true, false, cond}
 use mathlib.Core.List.{List, [], ◌∷◌}
 use Prim.Native.Nat.{ℕ, zero, suc, ◌+◌, ◌*◌, ◌≤◌, ◌<◌}
@@ -9,7 +9,7 @@ use lib.Dec.{eqb}
 use lib.IntN.{ℤ, pos, ◌+ℤ◌, ◌-ℤ◌}
 use lib.Signed.{◌≤ℤ◌}
 use lib.ListN.{length, get_or, take, length-set}
-use lib.Seq.{take-suc, take-length}
+use lib.Seq.{take-suc, take-length, take-take, get_or-take, length-take-le}
 use Rattle.rule.specs.Kernel.{Counts, none, sum, Under}
 use Rattle.rule.specs.Ints.{up}
 use Rattle.rule.specs.Payment.{payer_of, payee_of, amount_of, amount_to}
@@ -20,8 +20,9 @@ use Rattle.rule.proofs.Ints.{plus, minus, eq_of, ints, nonneg-is}
 use Rattle.rule.proofs.Sums.{sum-cong}
 use Rattle.rule.proofs.Find.{around-start, around-cong}
 use Rattle.rule.proofs.Bounds.{total-append}
-use Rattle.rule.proofs.Cover.{none_allowed}
+use Rattle.rule.proofs.Cover.{none_allowed, covered-lawful, position-cong}
 use Rattle.rule.proofs.Table.{by-payers}
+use Rattle.rule.proofs.Kernel.{largest-cong}
 use Rattle.tables.specs.Sizes.{members, places}
 use Rattle.finder.specs.Tops.{counts_of, height, Topped, AllIn}
 use Rattle.finder.specs.Positions.{moved, Entering, Entered}
@@ -44,13 +45,6 @@ sent-more pays m i h = rw (add-one, take-suc pays m 0 h, queue-append, total-app
 received_more : (pays : List ℕ) (m i : ℕ) → m < length pays
     → total (amount_to i) (take (m + 1) pays) ≡ total (amount_to i) (take m pays) + amount_to i (get_or pays m 0)
 received_more pays m i h = rw (add-one, take-suc pays m 0 h, total-append) (omega arith)
-
-pub entered-start : {used : ℕ} {pays : List ℕ} {bs : List ℤ} → Entering used pays bs → Entered 0 pays bs bs
-entered-start {bs} g = record {
-  each = g.each;
-  sums = λ i h. let b = get_or bs i (pos 0) in eq_of b (b -ℤ pos 0 +ℤ pos 0) (omega (arith, minus b (pos 0), plus (b -ℤ pos 0) (pos 0)));
-  near = λ i h. omega (arith, g.near i h);
-}
 
 pub entered-next : {used m : ℕ} {pays : List ℕ} {bs xs ys : List ℤ} → Entering used pays bs → m < used → Entered m pays bs xs
     → ys ≡ moved xs (payer_of (get_or pays m 0)) (payee_of (get_or pays m 0)) (amount_of (get_or pays m 0)) → Entered (m + 1) pays bs ys
@@ -156,3 +150,43 @@ module _ {n used : ℕ} {pays : List ℕ} {bs xs lines : List ℤ} {os ts : List
     each = f.ranges.each_position;
     booked = (f.keeps (house_from used pays bs lines) stood-start).stand;
   }
+
+-- ---- the places in use
+
+-- a house sits the same in the places in use alone,
+module _ {n used : ℕ} {pays : List ℕ} {bs lines : List ℤ} {os : List ℕ} (g : Sits n used pays bs lines os) where
+  waiting-length : length (take used pays) ≡ used
+  waiting-length = length-take-le used pays g.entering.places
+
+  pub sits-waiting : Sits n (length (take used pays)) (take used pays) bs lines os
+  sits-waiting = record {
+    few = g.few;
+    entering = record {
+      few = omega (arith, waiting-length, g.entering.few);
+      places = omega arith;
+      each = g.entering.each;
+      small = λ k h. let l : k < used = omega (arith, waiting-length) in rw (get_or-take used pays k 0 l) (g.entering.small k l);
+      near = g.entering.near;
+    };
+    each_line = g.each_line;
+    each_top = g.each_top;
+    nonneg = g.nonneg;
+    payers = rw take-length g.payers;
+    sound = simp take-length g.sound;
+  }
+
+  -- and what is the largest set there is the largest set
+  pub found-waiting : {ys : List ℤ} {us : List ℕ} → LargestFound n (length (take used pays)) (take used pays) bs lines ys us
+      → LargestFound n used pays bs lines ys us
+  found-waiting {ys} {us} f =
+      let H = house_from used pays bs lines in
+      let within : (i : ℕ) → i < members → get_or us i 0 ≤ used = λ i h. omega (arith, waiting-length, f.topped.within i h) in
+      let same : (i : ℕ) → i < members → counts_of (take used pays) us i ≡ counts_of pays us i =
+      λ i h. ap (λ (ws : List ℕ). length (queue_of i ws)) (take-take (get_or us i 0) used pays (within i h)) in
+      record {
+        topped = record { places = g.entering.places; each = f.topped.each; within = within };
+        largest = largest-cong (covered-lawful n H) (counts_of pays us) (λ i h. same i (omega (arith, g.few))) (simp take-length at f.largest);
+        each = f.each;
+        booked = λ i h. simp take-length at (f.booked i h)
+            ∙ position-cong n H (counts_of (take used pays) us) (counts_of pays us) i (same i h) (λ j k. same j (omega (arith, g.few)));
+      }

@@ -1,5 +1,5 @@
 -- A step, look by look: whoever is short loses a payment, and whatever house stood so before still does.
-use mathlib.Core.Path.{◌≡◌, refl}
+use mathlib.Core.Path.{◌≡◌}
 use mathlib.Core.Bool.{Bool, true, false}
 use mathlib.Core.List.{List}
 use Prim.Native.Nat.{ℕ, ◌≤◌, ◌<◌}
@@ -7,7 +7,7 @@ use native.Mathlib.Omega.{arith}
 use lib.IntN.{ℤ}
 use Rattle.tables.specs.Sizes.{members}
 use Rattle.finder.specs.Tops.{height}
-use Rattle.finder.specs.Finder.{InRange, Ready, Keeps, Short, TakenOff, Fell, Stepped}
+use Rattle.finder.specs.Finder.{InRange, Keeps, Short, TakenOff}
 use Rattle.finder.proofs.Off.{stood-off, height-off, ranges-off}
 
 -- the step is still at its first member, nobody is due, and nothing changed; or a payment was taken off
@@ -22,13 +22,9 @@ pub record Stepping (any : Bool) (n used i m due : ℕ) (pays : List ℕ) (lines
   pub low : height us ≤ height ts
   pub way : Way any i m due xs ys ts us
 
-pub step_start : {n used i : ℕ} {pays : List ℕ} {lines xs : List ℤ} {ts : List ℕ} → Ready n used pays xs lines ts
-    → Stepping false n used i i 0 pays lines xs xs ts ts
-step_start d = record { ranges = d.ranges; keeps = λ H st. st; low = omega arith; way = (refl, refl, refl, refl) }
-
 module _ {any : Bool} {n used i m due : ℕ} {pays : List ℕ} {lines xs ys : List ℤ} {ts us : List ℕ}
     (g : Stepping any n used i m due pays lines xs ys ts us) where
-  -- a short member loses its last payment,
+  -- a short member loses its last payment
   pub step-off : {p d : ℕ} {zs : List ℤ} {vs : List ℕ} → m < members → m < n → Short ys lines m ≡ true → TakenOff p pays m ys zs us vs
       → Stepping true n used i m d pays lines xs zs ts vs
   step-off {vs} inside h short t =
@@ -39,19 +35,3 @@ module _ {any : Bool} {n used i m due : ℕ} {pays : List ℕ} {lines xs ys : Li
         low = omega (arith, g.low);
         way = omega (arith, g.low);
       }
-
-  -- or one who is due comes next,
-  pub step-next : {k d : ℕ} → (due ≡ 0 → ⊥) → Stepping any n used i k d pays lines xs ys ts us
-  step-next {k} {d} some = record { ranges = g.ranges; keeps = g.keeps; low = g.low; way = go any g.way }
-    where
-      go : (b : Bool) → Way b i m due xs ys ts us → Way b i k d xs ys ts us
-      go true w = w
-      go false w = absurd (some w.1)
-
-  -- until nobody is: a payment was taken off, or the first member was not short
-  pub step_end : i < n → (m < n → Short ys lines m ≡ false) → Stepped any n used i pays lines xs ys ts us
-  step_end h long = record { ranges = g.ranges; keeps = g.keeps; low = g.low; fell = go any g.way }
-    where
-      go : (b : Bool) → Way b i m due xs ys ts us → Fell b i lines xs ys ts us
-      go true w = w
-      go false (e, z, q, r) = (rw (q, e) at (long (rw e h)), q, r)

@@ -23,6 +23,8 @@ pub payee-under : (w : ℕ) → payee_of w < members
 unfolding payee_of
 payee-under w = omega arith
 
+pub ruleset under = (payer-under, payee-under)
+
 -- ---- queues
 
 pub queue-append : (i : ℕ) (xs ys : List ℕ) → queue_of i (xs ++ ys) ≡ queue_of i xs ++ queue_of i ys

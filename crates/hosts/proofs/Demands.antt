@@ -15,9 +15,9 @@ use Rattle.tables.specs.Layout.{Tables, members_in, house_in, money_of, cover_of
 use Rattle.tables.specs.Holds.{Holds}
 use Rattle.answers.specs.Codes.{first}
 use Rattle.answers.specs.Outcome.{Outcome, outcome, decided, judgement, called}
-use Rattle.answers.specs.declared.Judged.TheVariants.{Fine}
-use Rattle.answers.specs.declared.Resolved.{Resolved}
-use Rattle.answers.specs.declared.Resolved.TheVariants.{Done}
+use Rattle.std.specs.Prelude.{Ok, Result}
+use Rattle.answers.specs.declared.Refusal.{Refusal}
+use Rattle.answers.specs.declared.Resolution.{Resolution}
 use Rattle.answers.proofs.Outcomes.{held-fine}
 use Rattle.booking.specs.Booking.{listed}
 use Rattle.opening.specs.Open.{entry, opened_in, open_act}
@@ -46,14 +46,14 @@ refused-changes-nothing = refused-keeps
 took-stands : {s t : List ℕ} {cs : List Noted} {qs : List Request} → ((k : ℕ) → get_or s k 0 < 256) → Took s t cs qs → Stands t
 took-stands {s} b a = (took-link (held_kept s b a.holds) a).stands
 
-resolved-fine : {s t : List ℕ} (c : HostCall resolves 0 s t) → judgement (resolve_act (counts_in c.counts)) (tables_in s) ≡ Fine
+resolved-fine : {s t : List ℕ} (c : HostCall resolves 0 s t) → judgement (resolve_act (counts_in c.counts)) (tables_in s) ≡ Ok tt
 unfolding resolve_act
 resolved-fine {s} c = (called-accepted (resolve_act (counts_in c.counts)) 48 told_resolved (λ r. refl) (lends s c.counts c.answer) c.promise).fine
 
 -- ---- an accepted open
 
 module _ {n : ℕ} {u v s t : List ℕ} (c : HostCall (opens n u v) 0 s t) where
-  opened : Stands t × (tables_in t ≡ opened_in (tables_in s) n (signed_in u) (signed_in v)) × (first ((open_act n (signed_in u) (signed_in v)).tests (tables_in s)) ≡ Fine)
+  opened : Stands t × (tables_in t ≡ opened_in (tables_in s) n (signed_in u) (signed_in v)) × (first ((open_act n (signed_in u) (signed_in v)).tests (tables_in s)) ≡ Ok tt)
   unfolding open_act
   opened =
       let a = held-accepted (open_act n (signed_in u) (signed_in v)) 8 told_opened (λ r. refl) (lends s c.counts c.answer) c.promise in
@@ -103,12 +103,12 @@ accepted-stands b resolves c = took-stands b (taken resolves c tt)
 
 -- ---- demand 3
 
-resolved-is : (k : List ℕ) (T : Tables) {W : Tables} → judgement (resolve_act k) T ≡ Fine → W ≡ (called (resolve_act k) T).after
-    → called (resolve_act k) T ≡ outcome (Done (told (members_in T) (house_in T) (listed (largest_in T))), largest_in T) W
+resolved-is : (k : List ℕ) (T : Tables) {W : Tables} → judgement (resolve_act k) T ≡ Ok tt → W ≡ (called (resolve_act k) T).after
+    → called (resolve_act k) T ≡ outcome (Ok (told (members_in T) (house_in T) (listed (largest_in T))), largest_in T) W
 unfolding called resolve_act
 resolved-is k T e f =
     let g = ap (decided (resolve_act k) T) e in
-    g ∙ ap (outcome _) (sym (f ∙ ap (λ (u : Outcome (Resolved × List ℕ)). u.after) g))
+    g ∙ ap (outcome _) (sym (f ∙ ap (λ (u : Outcome (Result Resolution Refusal × List ℕ)). u.after) g))
 
 at-once-same : (O : House) (cs ds : List Noted) → ((i : ℕ) → deposits_of cs i ≡ deposits_of ds i) → ((i : ℕ) → payments cs i ≡ payments ds i)
     → at_once O cs ≡ at_once O ds

@@ -9,7 +9,7 @@ use Rattle.tables.specs.Sizes.{bytes}
 use Rattle.tables.specs.Layout.{Tables}
 use Rattle.tables.specs.Holds.{Holds}
 use Rattle.answers.specs.Outcome.{Act, judgement, called}
-use Rattle.answers.specs.declared.Judged.TheVariants.{Fine}
+use Rattle.std.specs.Prelude.{Ok}
 use Rattle.answers.proofs.Outcomes.{judgement-fine}
 use Rattle.entry.specs.Deposit.{deposit_act}
 use Rattle.entry.specs.Submit.{submit_act}
@@ -62,8 +62,8 @@ pub record Took (s t : List ℕ) (cs : List Noted) (qs : List Request) : Type 0 
 -- an accepted call of the act k is the request r, where r does what k does, and of it ns is noted
 module _ {A : Type 0} (k : Act A) (r : Request) {ns : List Noted} {s t : List ℕ} (a : Accepted k (judgement k (tables_in s)) s t) where
   took : after r (tables_in s) ≡ (called k (tables_in s)).after → GoesOn r (tables_in s)
-      → (judgement k (tables_in s) ≡ Fine → (i : ℕ) → deposits_of (made (r ∷ []) (tables_in s)) i ≡ deposits_of ns i)
-      → (judgement k (tables_in s) ≡ Fine → (i : ℕ) → payments (made (r ∷ []) (tables_in s)) i ≡ payments ns i) → Took s t ns (r ∷ [])
+      → (judgement k (tables_in s) ≡ Ok tt → (i : ℕ) → deposits_of (made (r ∷ []) (tables_in s)) i ≡ deposits_of ns i)
+      → (judgement k (tables_in s) ≡ Ok tt → (i : ℕ) → payments (made (r ∷ []) (tables_in s)) i ≡ payments ns i) → Took s t ns (r ∷ [])
   unfolding called
   took e g f h = record {
     room = a.room;

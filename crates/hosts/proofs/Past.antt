@@ -11,18 +11,11 @@ use Rattle.words.proofs.Row.{length-put_row, put_row-outside}
 use Rattle.tables.specs.Sizes.{bytes}
 use Rattle.tables.specs.Layout.{Tables}
 use Rattle.answers.specs.Outcome.{Outcome, held, called}
-use Rattle.answers.specs.declared.Opened.{Opened}
-use Rattle.answers.specs.declared.Opened.TheVariants as opening
-use Rattle.answers.specs.declared.Deposited.{Deposited}
-use Rattle.answers.specs.declared.Deposited.TheVariants as depositing
-use Rattle.answers.specs.declared.Submitted.{Submitted}
-use Rattle.answers.specs.declared.Submitted.TheVariants as submitting
+use Rattle.std.specs.Prelude.{ℤ, Ok, Err, Result, ⊤}
+use Rattle.answers.specs.declared.Refusal.{Refusal}
 use Rattle.answers.specs.declared.Released.{Released}
-use Rattle.answers.specs.declared.Released.TheVariants as releasing
 use Rattle.answers.specs.declared.Grouped.{Grouped}
-use Rattle.answers.specs.declared.Grouped.TheVariants as grouping
-use Rattle.answers.specs.declared.Resolved.{Resolved}
-use Rattle.answers.specs.declared.Resolved.TheVariants as resolving
+use Rattle.answers.specs.declared.Resolution.{Resolution}
 use Rattle.opening.specs.Open.{open_act}
 use Rattle.entry.specs.Deposit.{deposit_act}
 use Rattle.entry.specs.Submit.{submit_act}
@@ -75,29 +68,29 @@ module _ (x : Lent) (n : ℕ) where
       go false = same-past n x
 
 -- how much each call tells
-opened-parts : (r : Opened) → Within 8 (told_opened r)
-opened-parts (opening.Done x) = omega arith
-opened-parts (opening.Refused r) = tt
+opened-parts : (r : Result ℤ Refusal) → Within 8 (told_opened r)
+opened-parts (Ok x) = omega arith
+opened-parts (Err r) = tt
 
-deposited-parts : (r : Deposited) → Within 8 (told_deposited r)
-deposited-parts (depositing.Done x) = omega arith
-deposited-parts (depositing.Refused r) = tt
+deposited-parts : (r : Result ℤ Refusal) → Within 8 (told_deposited r)
+deposited-parts (Ok x) = omega arith
+deposited-parts (Err r) = tt
 
-submitted-parts : (r : Submitted) → Within 0 (told_submitted r)
-submitted-parts submitting.Done = omega arith
-submitted-parts (submitting.Refused r) = tt
+submitted-parts : (r : Result ⊤ Refusal) → Within 0 (told_submitted r)
+submitted-parts (Ok u) = omega arith
+submitted-parts (Err r) = tt
 
-released-parts : (r : Released) → Within 16 (told_released r)
-released-parts (releasing.Done i n x) = omega arith
-released-parts (releasing.Refused r) = tt
+released-parts : (r : Result Released Refusal) → Within 16 (told_released r)
+released-parts (Ok x) = omega arith
+released-parts (Err r) = tt
 
-grouped-parts : (r : Grouped) → Within 16 (told_grouped r)
-grouped-parts (grouping.Done n x) = omega arith
-grouped-parts (grouping.Refused r) = tt
+grouped-parts : (r : Result Grouped Refusal) → Within 16 (told_grouped r)
+grouped-parts (Ok x) = omega arith
+grouped-parts (Err r) = tt
 
-resolved-parts : (k : List ℕ) (r : Resolved) → Within 48 (told_with k r)
-resolved-parts k (resolving.Done x) = omega arith
-resolved-parts k (resolving.Refused r) = tt
+resolved-parts : (k : List ℕ) (r : Result Resolution Refusal) → Within 48 (told_with k r)
+resolved-parts k (Ok x) = omega arith
+resolved-parts k (Err r) = tt
 
 -- so with every reply,
 replied-past : (q : Ask) (x : Lent) → Past (least q) x (replied q x).1

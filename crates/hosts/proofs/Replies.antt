@@ -8,12 +8,11 @@ use native.Mathlib.Omega.{arith}
 use lib.ListN.{length}
 use Rattle.tables.specs.Sizes.{bytes}
 use Rattle.tables.specs.Layout.{Tables}
-use Rattle.answers.specs.Codes.{code_of, first}
+use Rattle.answers.specs.Codes.{code_of, first, Judged}
 use Rattle.answers.specs.Outcome.{Outcome, Act, decided, judgement, held, called}
 use Rattle.answers.specs.declared.Refusal.{Refusal}
 use Rattle.answers.specs.declared.Refusal.TheVariants.{State, Member, Same, Amount, Number, Full, Money, Nothing, Cover, Counts, Opening, Line, Room}
-use Rattle.answers.specs.declared.Judged.{Judged}
-use Rattle.answers.specs.declared.Judged.TheVariants.{Fine, Bad}
+use Rattle.std.specs.Prelude.{Ok, Err}
 use Rattle.opening.specs.Open.{open_act}
 use Rattle.entry.specs.Deposit.{deposit_act}
 use Rattle.entry.specs.Submit.{submit_act}
@@ -71,7 +70,7 @@ some-code Room = omega arith
 
 -- the call k, judged j, was accepted on the bytes s, which became t
 pub record Accepted {A : Type 0} (k : Act A) (j : Judged) (s t : List ℕ) : Type 0 where
-  pub fine : j ≡ Fine
+  pub fine : j ≡ Ok tt
   pub room : bytes ≤ length s
   pub stored : t ≡ with_tables s (decided k (tables_in s) j).after
 
@@ -83,8 +82,8 @@ module _ {A : Type 0} (k : Act A) (least : ℕ) (tell : A → Told) (refuses : (
   judged : (j : Judged) → bytes ≤ length x.tables
       → (0, y) ≡ written x (decided k (tables_in x.tables) j).after (tell (decided k (tables_in x.tables) j).answer)
       → Accepted k j x.tables y.tables
-  judged Fine l e = record { fine = refl; room = l; stored = told-yes _ (tell (k.does (tables_in x.tables)).answer) e }
-  judged (Bad r) l e =
+  judged (Ok u) l e = record { fine = refl; room = l; stored = told-yes _ (tell (k.does (tables_in x.tables)).answer) e }
+  judged (Err r) l e =
       let f : (0, y) ≡ written x (tables_in x.tables) (no r) = e ∙ ap (written x (tables_in x.tables)) (refuses r) in
       let z : 0 ≡ code_of r = ap (λ (r : ℕ × Lent). r.0) f in
       absurd (omega (arith, some-code r))

@@ -18,7 +18,7 @@ use Rattle.booking.proofs.Reading.{accounts-length, counters-length, places-leng
 use Rattle.booking.proofs.Kept.{booked-last}
 use Rattle.answers.specs.Codes.{first}
 use Rattle.answers.specs.Outcome.{Act, held, judgement, called}
-use Rattle.answers.specs.declared.Judged.TheVariants.{Fine}
+use Rattle.std.specs.Prelude.{Ok}
 use Rattle.answers.proofs.Outcomes.{judgement-fine, decided-keeps}
 use Rattle.opening.specs.Open.{opened_in, open_act}
 use Rattle.opening.proofs.Judging.{Opens, open-fine}
@@ -82,11 +82,11 @@ opened-lasts o = record { each = λ i q. rw (opens-last o i q) (omega arith) }
 
 -- ---- after a call
 
-open-keeps : {A : Type 0} (P : Tables → Type 0) (k : Act A) {T : Tables} → P T → (first (k.tests T) ≡ Fine → P (k.does T).after) → P (held k T).after
+open-keeps : {A : Type 0} (P : Tables → Type 0) (k : Act A) {T : Tables} → P T → (first (k.tests T) ≡ Ok tt → P (k.does T).after) → P (held k T).after
 unfolding held
 open-keeps P k {T} p f = decided-keeps k T P (first (k.tests T)) p f
 
-act-keeps : {A : Type 0} (P : Tables → Type 0) (k : Act A) {T : Tables} → P T → (Holds T → first (k.tests T) ≡ Fine → P (k.does T).after) → P (called k T).after
+act-keeps : {A : Type 0} (P : Tables → Type 0) (k : Act A) {T : Tables} → P T → (Holds T → first (k.tests T) ≡ Ok tt → P (k.does T).after) → P (called k T).after
 unfolding called
 act-keeps P k {T} p f = decided-keeps k T P (judgement k T) p (λ e. let g = judgement-fine k T e in f g.0 g.1)
 

@@ -11,7 +11,7 @@ ghost use Rattle.settling.specs.Release.{release_act};
 ghost use Rattle.settling.specs.Group.{group_act};
 ghost use Rattle.resolving.specs.Resolve.{resolve_act, ToldLargest};
 
-use answers::{Deposited, Grouped, Opened, Refusal, Released, Resolved, Submitted};
+use answers::{Grouped, Refusal, Released, Resolution};
 
 // Opens a house of `count` members on lent tables, whatever they held.
 pub fn open(
@@ -21,7 +21,7 @@ pub fn open(
     count: u64,
     balances: &[i64],
     lines: &[i64],
-) -> Opened
+) -> Result<i64, Refusal>
     ensures { outcome result (tables accounts.new counters.new pays.new) ≡ held (open_act count balances.now lines.now) (tables accounts.old counters.old pays.old) }
 {
     opening::open(accounts, counters, pays, count, balances, lines)
@@ -34,11 +34,11 @@ pub fn deposit(
     pays: &[u64],
     member: u64,
     amount: u64,
-) -> Deposited
+) -> Result<i64, Refusal>
     ensures { outcome result (tables accounts.new counters.now pays.now) ≡ called (deposit_act member amount) (tables accounts.old counters.now pays.now) }
 {
     if !tables::look::is_state(accounts, counters, pays) {
-        return Deposited::Refused(Refusal::State);
+        return Err(Refusal::State);
     }
     entry::deposit::deposit(accounts, counters, pays, member, amount)
 }
@@ -52,11 +52,11 @@ pub fn submit(
     number: u64,
     payee: u64,
     amount: u64,
-) -> Submitted
+) -> Result<(), Refusal>
     ensures { outcome result (tables accounts.now counters.new pays.new) ≡ called (submit_act payer number payee amount) (tables accounts.now counters.old pays.old) }
 {
     if !tables::look::is_state(accounts, counters, pays) {
-        return Submitted::Refused(Refusal::State);
+        return Err(Refusal::State);
     }
     entry::submit::submit(accounts, counters, pays, payer, number, payee, amount)
 }
@@ -67,11 +67,11 @@ pub fn release(
     counters: &mut [u32],
     pays: &mut [u64],
     member: u64,
-) -> Released
+) -> Result<Released, Refusal>
     ensures { outcome result (tables accounts.new counters.new pays.new) ≡ called (release_act member) (tables accounts.old counters.old pays.old) }
 {
     if !tables::look::is_state(accounts, counters, pays) {
-        return Released::Refused(Refusal::State);
+        return Err(Refusal::State);
     }
     settling::release(accounts, counters, pays, member)
 }
@@ -82,11 +82,11 @@ pub fn group(
     counters: &mut [u32],
     pays: &mut [u64],
     counts: &[u16],
-) -> Grouped
+) -> Result<Grouped, Refusal>
     ensures { outcome result (tables accounts.new counters.new pays.new) ≡ called (group_act counts.now) (tables accounts.old counters.old pays.old) }
 {
     if !tables::look::is_state(accounts, counters, pays) {
-        return Grouped::Refused(Refusal::State);
+        return Err(Refusal::State);
     }
     settling::group(accounts, counters, pays, counts)
 }
@@ -97,12 +97,12 @@ pub fn resolve(
     counters: &mut [u32],
     pays: &mut [u64],
     counts: &mut [u16],
-) -> Resolved
+) -> Result<Resolution, Refusal>
     ensures pays_after { outcome (result, counts.new) (tables accounts.new counters.new pays.new) ≡ called (resolve_act counts.old) (tables accounts.old counters.old pays.old) }
     ensures told_largest { ToldLargest result (tables accounts.old counters.old pays.old) counts.new }
 {
     if !tables::look::is_state(accounts, counters, pays) {
-        return Resolved::Refused(Refusal::State);
+        return Err(Refusal::State);
     }
     resolving::resolve(accounts, counters, pays, counts)
 }

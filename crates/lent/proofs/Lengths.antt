@@ -1,14 +1,13 @@
 -- A lent list is n numbers long exactly where it is n widths of bytes long: from what a quotient and its rest are.
-use mathlib.Core.Path.{◌≡◌, refl, sym, ap, ◌∙◌}
+use mathlib.Core.Path.{◌≡◌, refl, sym, ◌∙◌}
 use mathlib.Core.Logic.{◌≢◌, ◌↔◌}
 use mathlib.Core.Bool.{Bool, true, false, cond, ◌&&◌}
-use mathlib.Core.List.{List, ◌++◌}
+use mathlib.Core.List.{List}
 use Prim.Native.Nat.{ℕ, ◌+◌, ◌*◌, ◌/◌, ◌%◌, ◌≤◌, ◌<◌}
 use native.Mathlib.Nat.{div-add-mod', mul-div_cancel}
 use native.Mathlib.Omega.{arith}
 use lib.Dec.{eqb, leb}
-use lib.ListN.{length, take, drop, length-append, length-drop}
-use lib.Seq.{take_at, length-take-le}
+use lib.ListN.{length}
 use borrow.Author.Tests.{eqb-true, eq-eqb, ne_eqb, le-leb, lt-leb}
 use Rattle.tables.specs.Sizes.{members}
 use Rattle.tables.proofs.Tests.{and_both}
@@ -56,11 +55,3 @@ long-exactly f w n u l some h = (
   λ e. bytes_of w n (length u) some (sym (length-row f w _ u 0) ∙ e),
   λ e. length-row f w _ u 0 ∙ entries-of w n (length u) some l h e,
 )
-
--- the first n places of a list, filled from the bytes, are what stands there; and the list stays as long
-pub part-read : {A : Type 0} (f : ℕ → A) (w n : ℕ) (s : List ℕ) (z r : List A) → n ≤ length z → r ≡ row_at f w (length (take n z)) s 0
-    → (take n (r ++ drop n z) ≡ row_at f w n s 0) × (length z ≡ length (r ++ drop n z))
-part-read f w n s z r h e =
-    let q : r ≡ row_at f w n s 0 = rw (length-take-le n z h) at e in
-    let l : length r ≡ n = ap length q ∙ length-row f w n s 0 in
-    (take_at r (drop n z) n l ∙ q, simp (length-append, length-drop) (omega arith))

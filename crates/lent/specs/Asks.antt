@@ -1,24 +1,15 @@
 -- What is asked of the house in lent bytes, what each call tells of its answer, and what it replies.
-use Rattle.std.specs.Prelude.{List, [], ◌∷◌, ℕ}
+use Rattle.std.specs.Prelude.{ℤ, List, [], ◌∷◌, ℕ, Ok, Err, Result, ⊤}
 use Rattle.std.specs.Int.Count.{ones}
 use Rattle.std.specs.Int.{w64}
 use Rattle.std.proofs.Common.{of_z}
 use Rattle.sets.specs.Sets.{lowest_in}
 use Rattle.answers.specs.Verdicts.{verdict_number}
 use Rattle.answers.specs.Outcome.{held, called}
-use Rattle.answers.specs.declared.Opened.{Opened}
-use Rattle.answers.specs.declared.Opened.TheVariants as opening
-use Rattle.answers.specs.declared.Deposited.{Deposited}
-use Rattle.answers.specs.declared.Deposited.TheVariants as depositing
-use Rattle.answers.specs.declared.Submitted.{Submitted}
-use Rattle.answers.specs.declared.Submitted.TheVariants as submitting
+use Rattle.answers.specs.declared.Refusal.{Refusal}
 use Rattle.answers.specs.declared.Released.{Released}
-use Rattle.answers.specs.declared.Released.TheVariants as releasing
 use Rattle.answers.specs.declared.Grouped.{Grouped}
-use Rattle.answers.specs.declared.Grouped.TheVariants as grouping
 use Rattle.answers.specs.declared.Resolution.{Resolution}
-use Rattle.answers.specs.declared.Resolved.{Resolved}
-use Rattle.answers.specs.declared.Resolved.TheVariants as resolving
 use Rattle.opening.specs.Open.{open_act}
 use Rattle.entry.specs.Deposit.{deposit_act}
 use Rattle.entry.specs.Submit.{submit_act}
@@ -31,40 +22,40 @@ use Rattle.lent.specs.Reply.{Lent, Told, yes, no, reply}
 -- ---- what is told
 
 -- the sum of balances
-abbrev pub told_opened : Opened → Told
-told_opened (opening.Done x) = yes [] (of_z w64 x ∷ [])
-told_opened (opening.Refused r) = no r
+abbrev pub told_opened : Result ℤ Refusal → Told
+told_opened (Ok x) = yes [] (of_z w64 x ∷ [])
+told_opened (Err r) = no r
 
 -- the new balance
-abbrev pub told_deposited : Deposited → Told
-told_deposited (depositing.Done b) = yes [] (of_z w64 b ∷ [])
-told_deposited (depositing.Refused r) = no r
+abbrev pub told_deposited : Result ℤ Refusal → Told
+told_deposited (Ok b) = yes [] (of_z w64 b ∷ [])
+told_deposited (Err r) = no r
 
 -- nothing but the code
-abbrev pub told_submitted : Submitted → Told
-told_submitted submitting.Done = yes [] []
-told_submitted (submitting.Refused r) = no r
+abbrev pub told_submitted : Result ⊤ Refusal → Told
+told_submitted (Ok u) = yes [] []
+told_submitted (Err r) = no r
 
 -- the payment's number and amount
-abbrev pub told_released : Released → Told
-told_released (releasing.Done i n x) = yes [] (n ∷ x ∷ [])
-told_released (releasing.Refused r) = no r
+abbrev pub told_released : Result Released Refusal → Told
+told_released (Ok d) = yes [] (d.number ∷ d.amount ∷ [])
+told_released (Err r) = no r
 
 -- how many payments, and their sum
-abbrev pub told_grouped : Grouped → Told
-told_grouped (grouping.Done n x) = yes [] (n ∷ x ∷ [])
-told_grouped (grouping.Refused r) = no r
+abbrev pub told_grouped : Result Grouped Refusal → Told
+told_grouped (Ok d) = yes [] (d.payments ∷ d.sum ∷ [])
+told_grouped (Err r) = no r
 
 -- the verdict, how many payments, their sum, the set of members still waiting, how many those are, and the lowest
 abbrev pub answer_parts : Resolution → List ℕ
 answer_parts x = verdict_number x.verdict ∷ x.payments ∷ x.sum ∷ x.waiting ∷ ones x.waiting ∷ lowest_in x.waiting ∷ []
 
 -- besides, the counts
-abbrev pub told_with : List ℕ → Resolved → Told
-told_with k (resolving.Done x) = yes k (answer_parts x)
-told_with k (resolving.Refused r) = no r
+abbrev pub told_with : List ℕ → Result Resolution Refusal → Told
+told_with k (Ok x) = yes k (answer_parts x)
+told_with k (Err r) = no r
 
-abbrev pub told_resolved : Resolved × List ℕ → Told
+abbrev pub told_resolved : Result Resolution Refusal × List ℕ → Told
 told_resolved a = told_with a.1 a.0
 
 -- ---- the replies

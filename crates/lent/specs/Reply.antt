@@ -1,5 +1,5 @@
 -- What a call on lent bytes replies: its code, and the bytes after it.
-use Rattle.std.specs.Prelude.{cond, List, ℕ, length}
+use Rattle.std.specs.Prelude.{cond, List, ℕ, length, Result, Ok, Err, ⊤}
 use Rattle.tables.specs.Layout.{Tables}
 use Rattle.words.specs.Row.{put_row, as_it_is}
 use Rattle.answers.specs.Codes.{code_of}
@@ -7,6 +7,11 @@ use Rattle.answers.specs.Outcome.{Outcome}
 use Rattle.answers.specs.declared.Refusal.{Refusal}
 use Rattle.answers.specs.declared.Refusal.TheVariants.{State}
 use Rattle.lent.specs.Bytes.{tables_in, with_tables, roomy}
+
+-- the code of what a call came to: 0 where it accepts
+abbrev pub code_in : Result ⊤ Refusal → ℕ
+code_in (Ok u) = 0
+code_in (Err r) = code_of r
 
 -- what a host lends to be written: the tables, the list of counts and the answer. A call that is lent no counts, or no answer, is lent none of
 -- their bytes.

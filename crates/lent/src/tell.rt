@@ -10,8 +10,7 @@ pub fn pair(answer: &mut [u8], x: u64, y: u64)
     requires { 16 ≤ length answer.old }
     ensures { answer.new ≡ put_row as_it_is 8 answer.old 0 (x ∷ y ∷ []) }
 {
-    let parts = [x, y];
-    words::rows::encode_u64(&parts, answer, 0);
+    words::rows::encode(&[x, y], answer, 0);
 }
 
 // Writes the six parts of a resolution into the answer.
@@ -19,22 +18,14 @@ pub fn resolution(answer: &mut [u8], x: Resolution)
     requires { 48 ≤ length answer.old }
     ensures { answer.new ≡ put_row as_it_is 8 answer.old 0 (answer_parts x) }
 {
-    let v = x.verdict;
     let waiting = x.waiting;
     let parts = [
-        answers::number(v),
+        u64::from(x.verdict),
         x.payments,
         x.sum,
         waiting,
-        wide(sets::size(waiting)),
-        wide(sets::lowest(waiting)),
+        u64::from(sets::size(waiting)),
+        u64::from(sets::lowest(waiting)),
     ];
-    words::rows::encode_u64(&parts, answer, 0);
-}
-
-// A number as one of 64 bits.
-fn wide(x: u32) -> u64
-    ensures { result ≡ x }
-{
-    x as u64
+    words::rows::encode(&parts, answer, 0);
 }

@@ -13,12 +13,11 @@ use Rattle.tables.specs.Layout.{Tables, count_of, money_of}
 use Rattle.tables.specs.Holds.{Holds}
 use Rattle.tables.proofs.Tests.{and_both}
 use Rattle.tables.proofs.Houses.{few-wait}
-use Rattle.answers.specs.Codes.{first}
+use Rattle.answers.specs.Codes.{first, Judged}
 use Rattle.answers.specs.Outcome.{decided, held}
 use Rattle.answers.specs.declared.Refusal.{Refusal}
 use Rattle.answers.specs.declared.Refusal.TheVariants as R
-use Rattle.answers.specs.declared.Judged.{Judged}
-use Rattle.answers.specs.declared.Judged.TheVariants.{Fine, Bad}
+use Rattle.std.specs.Prelude.{Ok, Err}
 use Rattle.opening.specs.Open.{open_act}
 use Rattle.opening.proofs.Judging.{Opens, open-fine}
 use Rattle.opening.proofs.Opens.{opens-hold, opens-money}
@@ -69,10 +68,10 @@ module _ (n : ℕ) (few : n < 10 ^ 7) where
       l = lines_given count t
 
       go : (j : Judged) → first ((open_act count b l).tests t) ≡ j → Kept (opens_to n count (decided (open_act count b l) t j))
-      go Fine e =
+      go (Ok u) e =
           let o : Opens t count b l = open-fine e in
           record { stands = opens-hold o; ranges = ((few, omega arith, rw (sym (opens-money o)) (money-small (opens-hold o).accounts)), tt) }
-      go (Bad r) e = record { stands = tt; ranges = ((few, code-small r), tt) }
+      go (Err r) e = record { stands = tt; ranges = ((few, code-small r), tt) }
 
   given-kept : (count k : ℕ) (t : Tables) (b : ℤ) (l : ℕ) → Giving count k t → Giving count k (given t k b l)
   given-kept count k t b l g = record {

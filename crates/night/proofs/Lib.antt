@@ -1,4 +1,3 @@
-pub mod Opening
 pub mod EndLines
 pub mod Found
 pub mod Kept

@@ -1,6 +1,6 @@
 -- What one line of the day file does (document 01, "The day file and the sheet"): what it says on the sheet, the stage after it, and the
 -- tables after it.
-use Rattle.std.specs.Prelude.{cond, ◌&&◌, List, [], ◌∷◌, ◌++◌, ℕ, ◌+◌, eqb, leb, ltb, ℤ, pos, length, take, drop, set}
+use Rattle.std.specs.Prelude.{cond, ◌&&◌, List, [], ◌∷◌, ◌++◌, ℕ, ◌+◌, eqb, leb, ltb, ℤ, pos, length, take, drop, set, Ok, Err, Result, Option, Some, None}
 use Rattle.rule.specs.Lists.{listing}
 use Rattle.rule.specs.Table.{queue_of}
 use Rattle.tables.specs.Sizes.{members}
@@ -9,16 +9,12 @@ use Rattle.answers.specs.Outcome.{Outcome, held}
 use Rattle.opening.specs.Open.{open_act}
 use Rattle.answers.specs.declared.Refusal.{Refusal}
 use Rattle.answers.specs.declared.Refusal.TheVariants.{Opening, Line}
-use Rattle.answers.specs.declared.Opened.{Opened}
-use Rattle.answers.specs.declared.Opened.TheVariants as opens
 use Rattle.dayfile.specs.Entries.{house, member, Entry, opening, day, end, bad}
 use Rattle.daylines.specs.Calls.{refusal, call_does}
 use Rattle.sheet.specs.declared.Says.{Says}
 use Rattle.sheet.specs.declared.Says.TheVariants as S
 use Rattle.night.specs.declared.Stage.{Stage}
 use Rattle.night.specs.declared.Stage.TheVariants as G
-use Rattle.night.specs.declared.Said.{Said}
-use Rattle.night.specs.declared.Said.TheVariants.{Nothing, One}
 use Rattle.night.specs.declared.Does.{Does}
 
 -- what a line does: the lines that it says on the sheet at once, the stage after it, which may have more to say, and the tables after it
@@ -28,9 +24,9 @@ pub record Did : Type 0 where
   pub after : Tables
 
 -- the lines that the code's answer says
-abbrev pub said_in : Said → List Says
-said_in Nothing = []
-said_in (One s) = s ∷ []
+abbrev pub said_in : Option Says → List Says
+said_in None = []
+said_in (Some s) = s ∷ []
 
 -- the answer of the code, with the tables after it
 abbrev pub done_by : Does → List ℤ → List ℕ → List ℕ → Did
@@ -63,13 +59,13 @@ abbrev pub given : Tables → ℕ → ℤ → ℕ → Tables
 given t k b l = tables (set (set t.accounts k b) (lines_at + k) (pos l)) t.counters t.pays
 
 -- what opening a house of count members answers, and the tables after it
-abbrev pub open_says : ℕ → ℕ → Opened → Says
-open_says n count (opens.Done sum) = S.Open n count sum
-open_says n count (opens.Refused r) = refusal n r
+abbrev pub open_says : ℕ → ℕ → Result ℤ Refusal → Says
+open_says n count (Ok sum) = S.Open n count sum
+open_says n count (Err r) = refusal n r
 
-abbrev pub open_stage : Opened → Stage
-open_stage (opens.Done sum) = G.Day
-open_stage (opens.Refused r) = G.Over
+abbrev pub open_stage : Result ℤ Refusal → Stage
+open_stage (Ok sum) = G.Day
+open_stage (Err r) = G.Over
 
 -- the balances and the lines that were given
 abbrev pub balances_given : ℕ → Tables → List ℤ
@@ -79,7 +75,7 @@ abbrev pub lines_given : ℕ → Tables → List ℤ
 lines_given count t = take count (drop lines_at t.accounts)
 
 -- the house is opened with what was given
-abbrev pub opens_to : ℕ → ℕ → Outcome Opened → Did
+abbrev pub opens_to : ℕ → ℕ → Outcome (Result ℤ Refusal) → Did
 opens_to n count u = says (open_says n count u.answer) (open_stage u.answer) u.after
 
 abbrev pub open_does : ℕ → ℕ → Tables → Did

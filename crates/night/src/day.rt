@@ -6,7 +6,6 @@ ghost use Rattle.dayfile.specs.Reading.{meant, Read};
 ghost use Rattle.answers.specs.declared.Refusal.TheVariants.{Line};
 ghost use Rattle.daylines.specs.Calls.{refusal};
 ghost use Rattle.night.specs.declared.Stage.TheVariants.{Day};
-ghost use Rattle.night.specs.declared.Said.TheVariants.{One};
 ghost use Rattle.night.specs.Lines.{done_by, day_does};
 
 use crate::{Does, Stage, quiet, says};
@@ -14,8 +13,9 @@ use answers::Refusal;
 use dayfile::Entry;
 
 // A stray or a bad line: the night goes on.
+// Kept: beside `night::openings::stop`, as there.
 fn stray(n: u64) -> Does
-    ensures { result ≡ record { said = One (refusal n Line); stage = Day } }
+    ensures { result ≡ record { said = Some (refusal n Line); stage = Day } }
 {
     says(daylines::refused(n, Refusal::Line), Stage::Day)
 }
@@ -33,14 +33,11 @@ pub fn day_line(
     ensures { done_by result accounts.new counters.new pays.new ≡ day_does n (tables accounts.old counters.old pays.old) (meant e counts.now) }
 {
     match e {
-        Entry::Opening(_) => stray(n),
         Entry::Day(d) => {
-            says(
-                daylines::call(accounts, counters, pays, counts, n, d),
-                Stage::Day,
-            )
-        },
+            let s = daylines::call(accounts, counters, pays, counts, n, d);
+            says(s, Stage::Day)
+        }
         Entry::End => quiet(Stage::Ending(0)),
-        Entry::Bad => stray(n),
+        Entry::Opening(_) | Entry::Bad => stray(n),
     }
 }

@@ -8,18 +8,16 @@ ghost use Rattle.night.specs.Stands.{Telling};
 use crate::Stage;
 use sheet::Says;
 use tables::House;
-use tables::steps::wide;
 
 // The line that comes k-th at the end.
 pub fn end_line(accounts: &[i64], counters: &[u32], pays: &[u64], k: u64) -> Says
     requires { Telling k (tables accounts.now counters.now pays.now) }
     ensures { result ≡ end_at (tables accounts.now counters.now pays.now) k }
 {
-    let count = wide(counters[0]);
-    let i = k as usize;
-    if i < count {
-        let left = counters[House::LASTS_AT + i] - counters[House::SETTLED_AT + i];
-        return Says::Balance(k + 1, accounts[i], left as u64);
+    if k < u64::from(counters[House::MEMBERS_AT]) {
+        let i = k as usize;
+        let left = tables::look::waiting_of(counters, i);
+        return Says::Balance(k + 1, accounts[i], u64::from(left));
     }
     Says::Money(tables::look::total(accounts, House::MEMBERS))
 }
@@ -29,8 +27,9 @@ pub fn end_next(counters: &[u32], k: u64) -> Stage
     requires { (0 < length counters.now) × (k ≤ members) }
     ensures { result ≡ end_next counters.now k }
 {
-    if k < wide(counters[0]) as u64 {
-        return Stage::Ending(k + 1);
+    if k < u64::from(counters[House::MEMBERS_AT]) {
+        Stage::Ending(k + 1)
+    } else {
+        Stage::Over
     }
-    Stage::Over
 }

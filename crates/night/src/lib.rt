@@ -4,10 +4,8 @@
 mod day;
 mod ending;
 mod openings;
-mod stages;
 
 ghost use Rattle.std.specs.Prelude.{◌≡◌};
-ghost use Rattle.night.specs.declared.Said.TheVariants.{Nothing, One};
 ghost use Rattle.tables.specs.Layout.{tables};
 ghost use Rattle.dayfile.specs.Reading.{meant, Read};
 ghost use Rattle.night.specs.Lines.{done_by, does_of};
@@ -16,11 +14,10 @@ ghost use Rattle.night.specs.Stands.{StageStands};
 use dayfile::Entry;
 pub use ending::{end_line, end_next};
 use sheet::Says;
-pub use stages::{ending_at, is_ending, is_over};
 
 // Where the night stands: before the house line; in the opening of a house of some members, of whom some were given; in the day; at the
 // end, with some of its lines said; over.
-#[derive(Clone, Copy)]
+#[derive(Clone, Copy, Debug, PartialEq, Eq)]
 pub enum Stage {
     House,
     Members(u64, u64),
@@ -29,17 +26,10 @@ pub enum Stage {
     Over,
 }
 
-// What a line says on the sheet at once; what it has still to say then, the stage after it says line by line.
-#[derive(Drop)]
-pub enum Said {
-    Nothing,
-    One(Says),
-}
-
-// What a line does: what it says, and the stage after it.
+// What a line does: what it says on the sheet at once, if anything, and the stage after it, which says line by line what is still to be said.
 #[derive(Drop)]
 pub struct Does {
-    pub said: Said,
+    pub said: Option<Says>,
     pub stage: Stage,
 }
 
@@ -60,27 +50,23 @@ pub fn answer(
         Stage::House => openings::house_line(n, e),
         Stage::Members(count, k) => openings::member_line(accounts, counters, pays, count, k, n, e),
         Stage::Day => day::day_line(accounts, counters, pays, counts, n, e),
-        Stage::Ending(k) => quiet(Stage::Ending(k)),
-        Stage::Over => quiet(Stage::Over),
+        Stage::Ending(_) | Stage::Over => quiet(stage),
     }
 }
 
 // Nothing is said.
 fn quiet(stage: Stage) -> Does
-    ensures { result ≡ record { said = Nothing; stage = stage } }
+    ensures { result ≡ record { said = None; stage = stage } }
 {
-    Does {
-        said: Said::Nothing,
-        stage,
-    }
+    Does { said: None, stage }
 }
 
 // One line is said.
 fn says(s: Says, stage: Stage) -> Does
-    ensures { result ≡ record { said = One s; stage = stage } }
+    ensures { result ≡ record { said = Some s; stage = stage } }
 {
     Does {
-        said: Said::One(s),
+        said: Some(s),
         stage,
     }
 }

@@ -1,20 +1,17 @@
 -- Each step takes a session of the night to one.
 use mathlib.Core.Path.{◌≡◌, refl, sym, ap, ◌∙◌, subst}
-use mathlib.Core.Bool.{Bool, true, false, cond, false≢true, ◌&&◌}
+use mathlib.Core.Bool.{Bool, true, false, cond, false≢true}
 use mathlib.Core.List.{List, [], ◌++◌, append-nil, append_assoc}
 use mathlib.Core.Logic.{◌⊎◌, inl, inr}
-use Prim.Native.Nat.{ℕ, ◌+◌, ◌≤◌, ◌<◌}
+use Prim.Native.Nat.{ℕ, ◌+◌, ◌≤◌}
 use native.Mathlib.Omega.{arith}
-use borrow.Author.Tests.{leb-true, ltb-true}
+use borrow.Author.Tests.{leb-true}
 use lib.Dec.{ltb}
-use lib.Signed.{lt_z}
-use lib.IntN.{ℤ, pos, negsuc}
 use lib.ListN.{length, take, drop}
 use lib.Seq.{length-take-le}
-use Rattle.io.specs.Counts.{clamp_len}
+use Rattle.std.specs.Prelude.{Option, Some, None, IfSome}
 use Rattle.sheet.specs.Room.{least_room, has_room}
 use Rattle.tables.specs.Layout.{Tables}
-use Rattle.tables.proofs.Tests.{and_both}
 use Rattle.desk.specs.declared.State.{State}
 use Rattle.desk.specs.declared.Turn.{Turn}
 use Rattle.night.specs.Stages.{is_over}
@@ -29,14 +26,14 @@ use Rattle.session.proofs.Theorem.{session-sheet, feed-whole}
 use Rattle.nightloop.specs.declared.Next.{Next}
 use Rattle.nightloop.specs.declared.Next.TheVariants as N
 use Rattle.nightloop.specs.declared.Run.{Run}
-use Rattle.nightloop.specs.Steps.{out_bytes, Memory, rest_in, desk_in, CanGo, goes_on_from, run_of, taken_as, fed_next, closed_next, flushed_of, Wrote, AteTo, Ate, ClosedTo, Closed, Open, Shut, Finished, SoFar}
+use Rattle.nightloop.specs.Steps.{out_bytes, Memory, rest_in, desk_in, CanGo, run_of, taken_as, fed_next, closed_next, flushed_of, Wrote, AteTo, Ate, ClosedTo, Closed, Open, Shut, Finished, SoFar}
 
 -- ---- before the first step
 
 abbrev first : Run
 first = run_of N.Read 0 dawn
 
-ready-first : {chunk buf counts out : List ℕ} {t : Tables} → Memory chunk buf counts t out → CanGo first chunk t
+ready-first : {chunk : List ℕ} {t : Tables} → Memory t → CanGo first chunk t
 ready-first m = record {
   fit = record { few = omega arith; room = omega arith; held = omega arith; stands = record { long = omega arith; broad = omega arith; deep = omega arith } };
   clear = refl;
@@ -45,7 +42,7 @@ ready-first m = record {
 }
 
 -- nothing was read, and nothing written
-pub stood-first : {chunk buf counts out : List ℕ} {t : Tables} → Memory chunk buf counts t out → t ≡ morning.tables → SoFar N.Read first chunk buf t out
+pub stood-first : {chunk buf out : List ℕ} {t : Tables} → Memory t → t ≡ morning.tables → SoFar N.Read first chunk buf t out
 stood-first {chunk} {buf} {out = out} {t = t} m e = (
   record {
     read = [];
@@ -56,15 +53,7 @@ stood-first {chunk} {buf} {out = out} {t = t} m e = (
   refl,
 )
 
--- a step follows only while one is left
-pub step_left : (n : Next) (turns : ℕ) {x : Bool} → x ≡ (goes_on_from n && ltb 0 turns) → x ≡ true → 0 < turns
-step_left n turns e f = ltb-true 0 turns (and_both (goes_on_from n) (ltb 0 turns) (sym e ∙ f)).1
-
 -- ---- a chunk is read
-
-clamped-under : (z : ℤ) (n : ℕ) → clamp_len z n ≤ n
-clamped-under (pos k) n = omega arith
-clamped-under (negsuc k) n = omega arith
 
 module _ {chunk buf out : List ℕ} {t : Tables} (chunk₁ : List ℕ) {r : Run} where
   handed-on : (n : ℕ) → n ≤ length chunk₁ → SoFar N.Read r chunk buf t out → Open (run_of N.Eat n r.state) chunk₁ buf t out
@@ -91,14 +80,14 @@ module _ {chunk buf out : List ℕ} {t : Tables} (chunk₁ : List ℕ) {r : Run}
   )
 
   -- whatever the read answered
-  pub stood-taken : (got : ℤ) → SoFar N.Read r chunk buf t out → let x = taken_as got (length chunk₁) r.state in SoFar x.next x chunk₁ buf t out
-  stood-taken got s = go (ltb 0 (clamp_len got (length chunk₁))) (lt_z got (pos 0))
+  pub stood-taken : (got : Option ℕ) → IfSome got (λ k. k ≤ length chunk₁) → SoFar N.Read r chunk buf t out
+      → let x = taken_as got r.state in SoFar x.next x chunk₁ buf t out
+  stood-taken (Some n) l s = go (ltb 0 n)
     where
-      go : (b f : Bool) → let x = cond b (run_of N.Eat (clamp_len got (length chunk₁)) r.state) (run_of (cond f N.Failed N.Close) 0 r.state) in
-          SoFar x.next x chunk₁ buf t out
-      go true f = handed-on (clamp_len got (length chunk₁)) (clamped-under got (length chunk₁)) s
-      go false true = tt
-      go false false = input-ends s
+      go : (b : Bool) → let x = cond b (run_of N.Eat n r.state) (run_of N.Close 0 r.state) in SoFar x.next x chunk₁ buf t out
+      go true = handed-on n l s
+      go false = input-ends s
+  stood-taken None l s = tt
 
 -- ---- bytes are fed, and what they say is written out
 
@@ -202,15 +191,15 @@ closed-to n q (inl e) = subst (λ (k : Next). ClosedTo k q.stage) (sym e) (go (i
 closed-to n q (inr e) = subst (λ (k : Next). ClosedTo k q.stage) (sym e) tt
 
 -- the end of the input was fed
-pub fed-closed : {r : Run} {chunk : List ℕ} {t u : Tables} (buf out out₁ : List ℕ) → CanGo r chunk t → (q : State) {k : Next} {x : Run}
-    → Stops close_turn (closes_on (length out)) (desk_of [] r.state t out buf) (desk_of [] q u out₁ buf) → Fit q u (length out)
-    → k ≡ closed_next q → Wrote (record { next = k; at = r.at; got = r.got; state = q }) x → Closed (desk_in r chunk buf t out) x chunk buf u out₁
-fed-closed {r} {chunk} {t} {u} buf out out₁ ok q s f e w = subst (λ (z : Run). Closed (desk_in r chunk buf t out) z chunk buf u out₁) (sym w.is) (record {
+pub fed-closed : {r : Run} {chunk : List ℕ} {t u : Tables} (buf buf₁ out out₁ : List ℕ) → CanGo r chunk t → (q : State) {k : Next} {x : Run}
+    → Stops close_turn (closes_on (length out)) (desk_of [] r.state t out buf) (desk_of [] q u out₁ buf₁) → Fit q u (length out)
+    → k ≡ closed_next q → Wrote (record { next = k; at = r.at; got = r.got; state = q }) x → Closed (desk_in r chunk buf t out) x chunk buf₁ u out₁
+fed-closed {r} {chunk} {t} {u} buf buf₁ out out₁ ok q s f e w = subst (λ (z : Run). Closed (desk_in r chunk buf t out) z chunk buf₁ u out₁) (sym w.is) (record {
   said = take q.used out₁;
   session = λ file v p h.
       let a : Session file v (desk_of [] r.state t out buf) [] = subst (λ (l : List ℕ). Session file v (desk_of l r.state t out buf) []) p h in
-      let b : Session file (v ++ take q.used out₁) (desk_of [] (flushed_of q) u out₁ buf) [] = writes (closes (length out) (desk_of [] q u out₁ buf) a refl s) in
-      subst (λ (l : List ℕ). Session file (v ++ take q.used out₁) (desk_of l (flushed_of q) u out₁ buf) []) (sym p) b;
+      let b : Session file (v ++ take q.used out₁) (desk_of [] (flushed_of q) u out₁ buf₁) [] = writes (closes (length out) (desk_of [] q u out₁ buf₁) a refl s) in
+      subst (λ (l : List ℕ). Session file (v ++ take q.used out₁) (desk_of l (flushed_of q) u out₁ buf₁) []) (sym p) b;
   ready = ready-flushed w.next r.at r.got chunk f ok.eaten ok.read;
   rest = refl;
   leads = closed-to w.next q (comes w.comes e);

@@ -1,11 +1,7 @@
 -- The program's steps, and what they make of a session of the night (session/specs/Session.antt): which bytes were read and handed on, and
 -- which were written out. r is where the program stood before a step and x where it stands after it; t are the tables.
-use Rattle.std.specs.Prelude.{◌≡◌, Bool, true, false, cond, List, [], ◌++◌, ◌⊎◌, ℕ, ◌≤◌, ltb, ℤ, pos, length, take, drop}
-use Rattle.std.specs.Int.Signed.{lt_z}
-use Rattle.io.specs.Counts.{clamp_len}
-use Rattle.dayfile.specs.Lines.{most_bytes}
+use Rattle.std.specs.Prelude.{◌≡◌, Bool, true, false, cond, List, [], ◌++◌, ◌⊎◌, ℕ, ◌≤◌, ltb, length, take, drop, Option, Some, None, IfSome}
 use Rattle.sheet.specs.Room.{has_room}
-use Rattle.dayfile.specs.Entries.{most_counts}
 use Rattle.tables.specs.Sizes.{places, table}
 use Rattle.tables.specs.Layout.{Tables}
 use Rattle.night.specs.declared.Stage.{Stage}
@@ -25,15 +21,11 @@ use Rattle.nightloop.specs.declared.Run.{Run}
 abbrev pub out_bytes : ℕ
 out_bytes = 4096
 
--- the chunk, the line buffer, the counts of a group, the tables and the output
-pub record Memory (chunk buf counts : List ℕ) (t : Tables) (out : List ℕ) : Type 0 where
-  pub bytes : length chunk ≡ out_bytes
-  pub line : length buf ≡ most_bytes
-  pub slots : length counts ≡ most_counts
+-- the tables are as long as they have to be; the chunk, the line buffer, the counts of a group and the output are by their types
+pub record Memory (t : Tables) : Type 0 where
   pub accounts : length t.accounts ≡ table
   pub counters : length t.counters ≡ table
   pub pays : length t.pays ≡ places
-  pub long : length out ≡ out_bytes
 
 -- the bytes that were read and are not eaten
 abbrev pub rest_in : Run → List ℕ → List ℕ
@@ -64,14 +56,16 @@ goes_on_from N.Failed = false
 abbrev pub run_of : Next → ℕ → State → Run
 run_of next n s = record { next = next; at = 0; got = n; state = s }
 
--- after a read into a chunk of n bytes was answered: bytes came, or it failed, or the input is at its end
-abbrev pub taken_as : ℤ → ℕ → State → Run
-taken_as got n s = cond (ltb 0 (clamp_len got n)) (run_of N.Eat (clamp_len got n) s) (run_of (cond (lt_z got (pos 0)) N.Failed N.Close) 0 s)
+-- after a read was answered: bytes came, or the input is at its end, or reading failed, and the answer is none
+abbrev pub taken_as : Option ℕ → State → Run
+taken_as (Some n) s = cond (ltb 0 n) (run_of N.Eat n s) (run_of N.Close 0 s)
+taken_as None s = run_of N.Failed 0 s
 
 -- some read into a chunk of n bytes was answered, and x is where that leads
 pub record Took (x : Run) (s : State) (n : ℕ) : Type 0 where
-  pub got : ℤ
-  pub is : x ≡ taken_as got n s
+  pub got : Option ℕ
+  pub within : IfSome got (λ k. k ≤ n)
+  pub is : x ≡ taken_as got s
 
 -- after bytes were fed: the night is over, all are eaten, or the output was full
 abbrev pub fed_next : State → Next

@@ -2,15 +2,15 @@
 // there before more input is awaited.
 #![tactic(auto)]
 
-ghost use Rattle.std.specs.Prelude.{◌≡◌, cond, ◌&&◌, ◌≤◌, ltb, pos, length, take};
-ghost use Rattle.std.specs.Int.Signed.{lt_z};
+ghost use Rattle.std.specs.Prelude.{◌≡◌, ◌≤◌, length, take};
+ghost use Rattle.std.specs.Io.{ReadsAtMost};
 ghost use Rattle.tables.specs.Layout.{tables};
 ghost use Rattle.desk.specs.Sheet.{morning};
-ghost use Rattle.nightloop.specs.declared.Next.TheVariants.{Close, Failed};
-ghost use Rattle.nightloop.specs.Steps.{out_bytes, Memory, CanGo, goes_on_from, taken_as, Took, fed_next, closed_next, Wrote, desk_in, Ate, Closed, SoFar};
+ghost use Rattle.nightloop.specs.Steps.{out_bytes, Memory, CanGo, goes_on_from, run_of, Took, fed_next, closed_next, Wrote, desk_in, Ate, Closed, SoFar};
 
-use desk::State;
-use std::io::{Read, Stderr, Stdin, Stdout, Write};
+use desk::{Buffers, State};
+use night::Stage;
+use std::io::{self, Read, Stderr, Stdin, Stdout, Write};
 
 // The bytes that are read at once, and those of the output that is written at once.
 pub const OUT: usize = 4096;
@@ -35,6 +35,7 @@ pub enum Next {
 }
 
 // Between two steps: got bytes of the chunk were read, and those before at are eaten; and the night there.
+// Kept: at and got are of every step, as `nightloop::specs::Steps::CanGo` says, and the chunk is lent memory of fixed length.
 #[derive(Clone, Copy)]
 pub struct Run {
     pub next: Next,
@@ -43,176 +44,126 @@ pub struct Run {
     pub state: State,
 }
 
-// The whole night, step by step, from the input to the output.
+// The whole night, step by step, from the input to the output. A proved loop has to end, and nothing says that the input does: so steps are
+// counted.
 pub fn whole(
     streams: Streams,
-    chunk: &mut [u8],
-    buf: &mut [u8],
-    counts: &mut [u64],
+    chunk: &mut [u8; OUT],
+    buffers: &mut Buffers,
     accounts: &mut [i64],
     counters: &mut [u32],
     pays: &mut [u64],
-    out: &mut [u8],
+    out: &mut [u8; OUT],
 ) -> Run
-    requires { Memory chunk.old buf.old counts.old (tables accounts.old counters.old pays.old) out.old × (tables accounts.old counters.old pays.old ≡ morning.tables) }
-    ensures { SoFar result.next result chunk.new buf.new (tables accounts.new counters.new pays.new) out.new }
+    requires { Memory (tables accounts.old counters.old pays.old) × (tables accounts.old counters.old pays.old ≡ morning.tables) }
+    ensures { SoFar result.next result chunk.new buffers.new.line (tables accounts.new counters.new pays.new) out.new }
 {
-    let s = session::start();
-    let mut r = Run {
-        next: Next::Read,
-        at: 0,
-        got: 0,
-        state: s,
-    };
-    let mut turns = u64::MAX;
-    'steps: while goes_on(r, turns) {
-        r = step(
-            streams, chunk, buf, counts, accounts, counters, pays, out, r,
-        );
-        turns -= 1;
+    let mut r = run_of(Next::Read, 0, session::start());
+    'steps: for _ in 0..u64::MAX {
+        if !goes_on(r.next) {
+            break;
+        }
+        r = step(streams, chunk, buffers, accounts, counters, pays, out, r);
     }
     r
 }
 
-// Whether a step follows. A proved loop has to end, and nothing says that the input does: so steps are counted.
-fn goes_on(r: Run, turns: u64) -> bool
-    ensures { result ≡ (goes_on_from r.next && ltb 0 turns) }
+// Whether a step follows.
+fn goes_on(next: Next) -> bool
+    ensures { result ≡ goes_on_from next }
 {
-    let next = r.next;
     match next {
-        Next::Read => turns > 0,
-        Next::Eat => turns > 0,
-        Next::Close => turns > 0,
-        Next::Done => false,
-        Next::Failed => false,
+        Next::Read | Next::Eat | Next::Close => true,
+        Next::Done | Next::Failed => false,
     }
 }
 
-// One step. Of what a session of the night was before it is one after it.
-fn step(
-    streams: Streams,
-    chunk: &mut [u8],
-    buf: &mut [u8],
-    counts: &mut [u64],
-    accounts: &mut [i64],
-    counters: &mut [u32],
-    pays: &mut [u64],
-    out: &mut [u8],
-    r: Run,
-) -> Run
-    requires { Memory chunk.old buf.old counts.old (tables accounts.old counters.old pays.old) out.old × SoFar r.next r chunk.old buf.old (tables accounts.old counters.old pays.old) out.old }
-    ensures { SoFar result.next result chunk.new buf.new (tables accounts.new counters.new pays.new) out.new }
+// So many bytes of the chunk are there, and none is eaten.
+fn run_of(next: Next, got: usize, state: State) -> Run
+    ensures { result ≡ run_of next got state }
 {
-    let next = r.next;
-    match next {
-        Next::Read => {
-            return read_on(streams, chunk, r);
-        }
-        Next::Eat => {
-            return eat_on(
-                streams, chunk, buf, counts, accounts, counters, pays, out, r,
-            );
-        }
-        Next::Close => {
-            return close_on(
-                streams, chunk, buf, counts, accounts, counters, pays, out, r,
-            );
-        }
-        Next::Done => {
-            return r;
-        }
-        Next::Failed => {
-            return r;
-        }
-    }
-}
-
-// Reads a chunk: what the read answered and put there comes next.
-fn read_on(streams: Streams, chunk: &mut [u8], r: Run) -> Run
-    ensures { Took result r.state (length chunk.new) }
-{
-    let got = read(streams, chunk);
-    taken(streams, got, chunk, r)
-}
-
-// How many bytes a read put at the start of the chunk, or -1 where it failed.
-fn read(streams: Streams, chunk: &mut [u8]) -> isize {
-    let mut input = streams.input;
-    match input.read(chunk) {
-        Ok(n) => n as isize,
-        Err(_) => -1,
-    }
-}
-
-// A read was answered with got, and its bytes are at the start of the chunk: they are eaten next, or the input is at its end, or reading failed.
-fn taken(streams: Streams, got: isize, chunk: &[u8], r: Run) -> Run
-    ensures { result ≡ taken_as got (length chunk.now) r.state }
-{
-    let s = r.state;
-    let n = io::count(got, chunk);
-    if n > 0 {
-        return Run {
-            next: Next::Eat,
-            at: 0,
-            got: n,
-            state: s,
-        };
-    }
-    let next = ended(streams, got);
     Run {
         next,
         at: 0,
-        got: 0,
-        state: s,
+        got,
+        state,
     }
 }
 
-// A read that put nothing into the chunk failed, or the input is at its end.
-fn ended(streams: Streams, got: isize) -> Next
-    ensures { result ≡ cond (lt_z got (pos 0)) Failed Close }
+// One step. What was a session of the night before it is one after it.
+// Kept: what comes next is a state that a step leaves behind (`nightloop::specs::Steps::SoFar`); no step is handed on, so no closure is plainer.
+fn step(
+    streams: Streams,
+    chunk: &mut [u8; OUT],
+    buffers: &mut Buffers,
+    accounts: &mut [i64],
+    counters: &mut [u32],
+    pays: &mut [u64],
+    out: &mut [u8; OUT],
+    r: Run,
+) -> Run
+    requires { SoFar r.next r chunk.old buffers.old.line (tables accounts.old counters.old pays.old) out.old }
+    ensures { SoFar result.next result chunk.new buffers.new.line (tables accounts.new counters.new pays.new) out.new }
 {
-    if got < 0 {
-        complain(streams, b"nightsheet: cannot read\n");
-        return Next::Failed;
+    match r.next {
+        Next::Read => read_on(streams, chunk, r),
+        Next::Eat => eat_on(streams, chunk, buffers, accounts, counters, pays, out, r),
+        Next::Close => close_on(streams, chunk, buffers, accounts, counters, pays, out, r),
+        Next::Done | Next::Failed => r,
     }
-    Next::Close
+}
+
+// Reads a chunk: its bytes are eaten next, or the input is at its end, or reading failed.
+fn read_on(streams: Streams, chunk: &mut [u8; OUT], r: Run) -> Run
+    ensures { Took result r.state (length chunk.new) }
+{
+    match read(streams, chunk) {
+        Ok(0) => run_of(Next::Close, 0, r.state),
+        Ok(n) => run_of(Next::Eat, n, r.state),
+        Err(_) => {
+            complain(streams, b"nightsheet: cannot read\n");
+            run_of(Next::Failed, 0, r.state)
+        }
+    }
+}
+
+// Reads: how many bytes stand at the start of the chunk, none at the end of the input.
+fn read(streams: Streams, chunk: &mut [u8]) -> io::Result<usize>
+    ensures { ReadsAtMost result chunk.new }
+{
+    let mut input = streams.input;
+    input.read(chunk)
 }
 
 // What is left of the chunk is eaten, as far as the output has room, and what it says is written out.
 fn eat_on(
     streams: Streams,
-    chunk: &[u8],
-    buf: &mut [u8],
-    counts: &mut [u64],
+    chunk: &[u8; OUT],
+    buffers: &mut Buffers,
     accounts: &mut [i64],
     counters: &mut [u32],
     pays: &mut [u64],
-    out: &mut [u8],
+    out: &mut [u8; OUT],
     r: Run,
 ) -> Run
-    requires { Memory chunk.now buf.old counts.old (tables accounts.old counters.old pays.old) out.old × CanGo r chunk.now (tables accounts.old counters.old pays.old) }
-    ensures { Ate (desk_in r chunk.now buf.old (tables accounts.old counters.old pays.old) out.old) result chunk.now buf.new (tables accounts.new counters.new pays.new) out.new }
+    requires { CanGo r chunk.now (tables accounts.old counters.old pays.old) }
+    ensures { Ate (desk_in r chunk.now buffers.old.line (tables accounts.old counters.old pays.old) out.old) result chunk.now buffers.new.line (tables accounts.new counters.new pays.new) out.new }
 {
-    let got = r.got;
-    let s = r.state;
     let t = session::feed(
-        &chunk[..got],
+        &chunk[..r.got],
         r.at,
-        buf,
-        counts,
+        buffers,
         accounts,
         counters,
         pays,
         out,
-        s,
+        r.state,
     );
-    let v = t.state;
-    let next = fed_next(v);
     let e = Run {
-        next,
+        next: fed_next(t.state),
         at: t.at,
-        got,
-        state: v,
+        state: t.state,
+        ..r
     };
     write_out(streams, out, e)
 }
@@ -222,8 +173,7 @@ fn fed_next(s: State) -> Next
     requires { s.used ≤ out_bytes }
     ensures { result ≡ fed_next s }
 {
-    let stage = s.stage;
-    if session::is_over(stage) {
+    if matches!(s.stage, Stage::Over) {
         return Next::Done;
     }
     if sheet::has_room(s.used, OUT) {
@@ -235,26 +185,22 @@ fn fed_next(s: State) -> Next
 // The input is at its end: the night is closed, as far as the output has room, and what it says is written out.
 fn close_on(
     streams: Streams,
-    chunk: &[u8],
-    buf: &[u8],
-    counts: &mut [u64],
+    chunk: &[u8; OUT],
+    buffers: &mut Buffers,
     accounts: &mut [i64],
     counters: &mut [u32],
     pays: &mut [u64],
-    out: &mut [u8],
+    out: &mut [u8; OUT],
     r: Run,
 ) -> Run
-    requires { Memory chunk.now buf.now counts.old (tables accounts.old counters.old pays.old) out.old × CanGo r chunk.now (tables accounts.old counters.old pays.old) }
-    ensures { Closed (desk_in r chunk.now buf.now (tables accounts.old counters.old pays.old) out.old) result chunk.now buf.now (tables accounts.new counters.new pays.new) out.new }
+    requires { CanGo r chunk.now (tables accounts.old counters.old pays.old) }
+    ensures { Closed (desk_in r chunk.now buffers.old.line (tables accounts.old counters.old pays.old) out.old) result chunk.now buffers.new.line (tables accounts.new counters.new pays.new) out.new }
 {
-    let s = r.state;
-    let v = session::close(buf, counts, accounts, counters, pays, out, s);
-    let next = closed_next(v);
+    let state = session::close(buffers, accounts, counters, pays, out, r.state);
     let e = Run {
-        next,
-        at: r.at,
-        got: r.got,
-        state: v,
+        next: closed_next(state),
+        state,
+        ..r
     };
     write_out(streams, out, e)
 }
@@ -263,8 +209,7 @@ fn close_on(
 fn closed_next(s: State) -> Next
     ensures { result ≡ closed_next s }
 {
-    let stage = s.stage;
-    if session::is_over(stage) {
+    if matches!(s.stage, Stage::Over) {
         return Next::Done;
     }
     Next::Close
@@ -275,37 +220,31 @@ fn write_out(streams: Streams, out: &[u8], r: Run) -> Run
     requires { r.state.used ≤ length out.now }
     ensures { Wrote r result }
 {
-    let s = r.state;
-    let used = s.used;
-    let w = session::flushed(s);
-    if hand_out(streams, &out[..used], out, s) {
-        let next = r.next;
-        return Run {
-            next,
-            at: r.at,
-            got: r.got,
-            state: w,
-        };
-    }
-    complain(streams, b"nightsheet: cannot write\n");
-    Run {
-        next: Next::Failed,
-        at: r.at,
-        got: r.got,
-        state: w,
+    let used = r.state.used;
+    let state = session::flushed(r.state);
+    match hand_out(streams, &out[..used], out, r.state) {
+        Ok(()) => Run { state, ..r },
+        Err(_) => {
+            complain(streams, b"nightsheet: cannot write\n");
+            Run {
+                next: Next::Failed,
+                state,
+                ..r
+            }
+        }
     }
 }
 
 // Hands bytes to standard output: the night's, as they stand in the output, which is lent for this promise alone.
-fn hand_out(streams: Streams, bytes: &[u8], out: &[u8], s: State) -> bool
+fn hand_out(streams: Streams, bytes: &[u8], out: &[u8], s: State) -> io::Result<()>
     requires { bytes.now ≡ take s.used out.now }
 {
     let mut output = streams.output;
-    output.write_all(bytes).is_ok()
+    output.write_all(bytes)
 }
 
 // Says on standard error why the night stops. Where not even that can be written, nothing is left to do.
 fn complain(streams: Streams, words: &[u8]) {
     let mut errors = streams.errors;
-    let _said = errors.write_all(words).is_ok();
+    let _ = errors.write_all(words);
 }

@@ -11,8 +11,9 @@ use Rattle.tables.proofs.States.{holds-state}
 use Rattle.booking.specs.Booking.{listed, booked_in}
 use Rattle.answers.specs.Codes.{first}
 use Rattle.answers.specs.Outcome.{Act, Outcome, held, called}
-use Rattle.answers.specs.declared.Judged.TheVariants.{Fine}
-use Rattle.answers.specs.declared.Resolved.{Resolved}
+use Rattle.std.specs.Prelude.{Ok, Result}
+use Rattle.answers.specs.declared.Refusal.{Refusal}
+use Rattle.answers.specs.declared.Resolution.{Resolution}
 use Rattle.answers.proofs.Outcomes.{held-fine, called-held}
 use Rattle.entry.specs.Deposit.{deposit_act}
 use Rattle.entry.specs.Submit.{submit_act}
@@ -33,13 +34,13 @@ module _ {t : Tables} (h : Holds t) where
   state-calls {A} k = ap (λ (u : Outcome A). u.after) (sym (called-held k t (holds-state h)))
 
   -- a resolution with a list of the right length is accepted
-  pub resolves-fine : {n : ℕ} → members_in t ≡ n → first ((resolve_act (replicate n 0)).tests t) ≡ Fine
+  pub resolves-fine : {n : ℕ} → members_in t ≡ n → first ((resolve_act (replicate n 0)).tests t) ≡ Ok tt
   unfolding resolve_act
   resolves-fine {n} e = rw (eq-eqb (length (replicate {A = ℕ} n 0)) (members_in t) (length-replicate n 0 ∙ sym e))
 
   resolve-calls : {n : ℕ} → members_in t ≡ n → booked_in t (listed (largest_in t)) ≡ (called (resolve_act (replicate n 0)) t).after
   unfolding resolve_act
-  resolve-calls {n} e = ap (λ (u : Outcome (Resolved × List ℕ)). u.after) (sym (held-fine (resolve_act (replicate n 0)) t (resolves-fine e))) ∙ state-calls (resolve_act (replicate n 0))
+  resolve-calls {n} e = ap (λ (u : Outcome (Result Resolution Refusal × List ℕ)). u.after) (sym (held-fine (resolve_act (replicate n 0)) t (resolves-fine e))) ∙ state-calls (resolve_act (replicate n 0))
 
   -- the tables after a line are those after its requests
   pub line-calls : {n : ℕ} → members_in t ≡ n → (i : ℕ) (e : Entry) → (day_does i t e).after ≡ after_all (requests_of n e) t

@@ -15,10 +15,10 @@ use Rattle.tables.specs.Layout.{Tables, members_in, house_in}
 use Rattle.tables.proofs.States.{holds-state}
 use Rattle.booking.specs.Booking.{listed, booked_in}
 use Rattle.answers.specs.Outcome.{Outcome, outcome, judgement, called}
-use Rattle.answers.specs.declared.Judged.{Judged}
-use Rattle.answers.specs.declared.Judged.TheVariants.{Fine, Bad}
-use Rattle.answers.specs.declared.Resolved.{Resolved}
-use Rattle.answers.specs.declared.Resolved.TheVariants.{Done}
+use Rattle.std.specs.Prelude.{Ok, Err, Result}
+use Rattle.answers.specs.declared.Refusal.{Refusal}
+use Rattle.answers.specs.declared.Resolution.{Resolution}
+use Rattle.answers.specs.Codes.{Judged}
 use Rattle.answers.proofs.Outcomes.{held-fine, called-held}
 use Rattle.opening.specs.Open.{entry}
 use Rattle.resolving.specs.Resolve.{told, largest_in, resolve_act}
@@ -100,12 +100,12 @@ module _ {opening day : List Line} {file : List ℕ} (w : Whole opening day file
 
 -- a resolution brings no deposit and no payment
 settle-deposits : (j : Judged) (z : Counts) (i : ℕ) → deposits (accepted j (settle z ∷ []) ++ []) i ≡ 0
-settle-deposits Fine z i = refl
-settle-deposits (Bad r) z i = refl
+settle-deposits (Ok u) z i = refl
+settle-deposits (Err r) z i = refl
 
 settle-payments : (j : Judged) (z : Counts) (i : ℕ) → payments (accepted j (settle z ∷ []) ++ []) i ≡ []
-settle-payments Fine z i = refl
-settle-payments (Bad r) z i = refl
+settle-payments (Ok u) z i = refl
+settle-payments (Err r) z i = refl
 
 module _ {opening day : List Line} (o : Opens opening) (r : LastResolves opening day) where
   abbrev T : Tables
@@ -141,13 +141,13 @@ module _ {opening day : List Line} (o : Opens opening) (r : LastResolves opening
       let f = resolves-fine c.stands (c.members ∙ begun-members (opens-begun o)) in
       let u : called k eve_tables ≡ k.does eve_tables = called-held k eve_tables (holds-state c.stands) ∙ held-fine k eve_tables f in
       let e : tables_after opening day ≡ (called k eve_tables).after = ap (λ qs. after_all qs T) r.parts ∙ after-join r.eve (last ∷ []) T in
-      let a : booked_in eve_tables (listed (largest_in eve_tables)) ≡ tables_after opening day = sym (e ∙ ap (λ (v : Outcome (Resolved × List ℕ)). v.after) u) in
+      let a : booked_in eve_tables (listed (largest_in eve_tables)) ≡ tables_after opening day = sym (e ∙ ap (λ (v : Outcome (Result Resolution Refusal × List ℕ)). v.after) u) in
       record {
         inside = eve-inside;
         given = replicate (members_of opening) 0;
         told = largest_in eve_tables;
         resolution = told (members_in eve_tables) (house_in eve_tables) (listed (largest_in eve_tables));
-        last = u ∙ ap (λ t. outcome (Done (told (members_in eve_tables) (house_in eve_tables) (listed (largest_in eve_tables))), largest_in eve_tables) t) a;
+        last = u ∙ ap (λ t. outcome (Ok (told (members_in eve_tables) (house_in eve_tables) (listed (largest_in eve_tables))), largest_in eve_tables) t) a;
       }
 
   -- so it ends as rule 2 says for the opening balances, all deposits and all payments taken at once

@@ -13,8 +13,7 @@ use Rattle.tables.specs.Layout.{Tables}
 use Rattle.answers.specs.Outcome.{Outcome, held}
 use Rattle.answers.specs.declared.Refusal.{Refusal}
 use Rattle.answers.specs.declared.Refusal.TheVariants as R
-use Rattle.answers.specs.declared.Opened.{Opened}
-use Rattle.answers.specs.declared.Opened.TheVariants as opening
+use Rattle.std.specs.Prelude.{ℤ, Ok, Err, Result}
 use Rattle.opening.specs.Open.{open_act}
 use Rattle.dayfile.specs.Entries as E
 use Rattle.dayfile.specs.Lines.{Line, lines_of}
@@ -58,9 +57,9 @@ house-leads n t E.end = over n R.Line refl refl
 house-leads n t E.bad = over n R.Line refl refl
 
 module _ (n count k : ℕ) where
-  open-leads : (u : Outcome Opened) (o : Opened) → u.answer ≡ o → Leads (G.Members count k) (opens_to n count u)
-  open-leads u (opening.Done s) e = opens refl (rw e)
-  open-leads u (opening.Refused r) e = over n r (rw e) (rw e)
+  open-leads : (u : Outcome (Result ℤ Refusal)) (o : Result ℤ Refusal) → u.answer ≡ o → Leads (G.Members count k) (opens_to n count u)
+  open-leads u (Ok s) e = opens refl (rw e)
+  open-leads u (Err r) e = over n r (rw e) (rw e)
 
   given-leads : (t : Tables) (p : Bool) → Leads (G.Members count k) (cond p (quiet (G.Members count (k + 1)) t) (open_does n count t))
   given-leads t true = on refl

@@ -11,8 +11,8 @@ use lib.ListN.{length, length-append}
 use Rattle.tables.specs.Sizes.{members}
 use Rattle.tables.specs.Layout.{Tables}
 use Rattle.tables.proofs.Tests.{and_both}
-use Rattle.answers.specs.declared.Opened.{Opened}
-use Rattle.answers.specs.declared.Opened.TheVariants as opening
+use Rattle.std.specs.Prelude.{Ok, Err, Result}
+use Rattle.answers.specs.declared.Refusal.{Refusal}
 use Rattle.answers.specs.declared.Refusal.TheVariants as R
 use Rattle.answers.specs.Outcome.{held}
 use Rattle.opening.specs.Open.{open_act}
@@ -66,9 +66,9 @@ module _ {count k : ℕ} {es : List Entry} (b : Begins count k es) (x : ℤ) (y 
 
 -- ---- a line
 
-open-formed : (o : Opened) (es : List Entry) → Formed (said_all (open_stage o)) es
-open-formed (opening.Done s) es = tt
-open-formed (opening.Refused r) es = tt
+open-formed : (o : Result ℤ Refusal) (es : List Entry) → Formed (said_all (open_stage o)) es
+open-formed (Ok s) es = tt
+open-formed (Err r) es = tt
 
 house-formed : (n : ℕ) (t : Tables) (es : List Entry) → es ≡ [] → (e : Entry) → Formed (said_all (house_does n t e).stage) (es ++ (e ∷ []))
 house-formed n t es q (E.opening (E.house count)) = go (leb 1 count && leb count members) refl

@@ -15,10 +15,9 @@ use Rattle.tables.specs.Layout.{Tables, lines_at}
 use Rattle.tables.proofs.Tests.{and_both}
 use Rattle.answers.specs.Outcome.{Outcome, outcome, held}
 use Rattle.answers.specs.declared.Refusal.TheVariants as R
-use Rattle.answers.specs.declared.Opened.{Opened}
-use Rattle.answers.specs.declared.Opened.TheVariants as opening
+use Rattle.std.specs.Prelude.{Ok, Err, Result}
+use Rattle.answers.specs.declared.Refusal.{Refusal}
 use Rattle.answers.specs.Codes.{first}
-use Rattle.answers.specs.declared.Judged.TheVariants.{Fine}
 use Rattle.answers.proofs.Outcomes.{done-fine}
 use Rattle.opening.specs.Open.{open_act}
 use Rattle.opening.proofs.Judging.{Opens as OpenFine, open-fine}
@@ -82,9 +81,9 @@ module _ {count k : ℕ} {t : Tables} {b l : List ℤ} (g : Gives count k t b l)
 
 -- ---- a line
 
-open-gave : (o : Opened) (t : Tables) (b l : List ℤ) → Gave (said_all (open_stage o)) t b l
-open-gave (opening.Done s) t b l = tt
-open-gave (opening.Refused r) t b l = tt
+open-gave : (o : Result ℤ Refusal) (t : Tables) (b l : List ℤ) → Gave (said_all (open_stage o)) t b l
+open-gave (Ok s) t b l = tt
+open-gave (Err r) t b l = tt
 
 house-gave : (n : ℕ) (t : Tables) (b l : List ℤ) → None t b l → (e : Entry) → GaveBy (house_does n t e) (b ++ balance_given e) (l ++ credit_of e)
 house-gave n t b l g (E.opening (E.house count)) = go (leb 1 count && leb count members) refl
@@ -166,7 +165,7 @@ module _ (n count k : ℕ) (t : Tables) {b l : List ℤ} (g : Gives count k t b 
       v : Tables
       v = given t k x y
 
-      u : Outcome Opened
+      u : Outcome (Result ℤ Refusal)
       u = held (open_act count (balances_given count v) (lines_given count v)) v
 
       eb : balances_given count v ≡ b ++ (x ∷ [])
@@ -175,15 +174,15 @@ module _ (n count k : ℕ) (t : Tables) {b l : List ℤ} (g : Gives count k t b 
       el : lines_given count v ≡ l ++ (pos y ∷ [])
       el = ap (λ i. take i (drop lines_at v.accounts)) (sym c) ∙ given-lines g x y
 
-      go : (o : Opened) → u.answer ≡ o → said_all (open_stage o) ≡ G.Day → Begun count (b ++ (x ∷ [])) (l ++ (pos y ∷ [])) u.after
-      go (opening.Done s) e q = record {
+      go : (o : Result ℤ Refusal) → u.answer ≡ o → said_all (open_stage o) ≡ G.Day → Begun count (b ++ (x ∷ [])) (l ++ (pos y ∷ [])) u.after
+      go (Ok s) e q = record {
         before = v;
         sum = s;
         promise =
             ap (λ z. held (open_act count z (l ++ (pos y ∷ []))) v) (sym eb) ∙ ap (λ z. held (open_act count (balances_given count v) z) v) (sym el)
             ∙ ap (λ a. outcome a u.after) e;
       }
-      go (opening.Refused r) e q = let z : ◌≡◌ {A = ℕ} 0 1 = cc in absurd (omega arith)
+      go (Err r) e q = let z : ◌≡◌ {A = ℕ} 0 1 = cc in absurd (omega arith)
 
   given-begun : (x : ℤ) (y : ℕ) (p : Bool) → ltb (k + 1) count ≡ p → let r = cond p (quiet (G.Members count (k + 1)) (given t k x y)) (open_does n count (given t k x y)) in
       said_all r.stage ≡ G.Day → Begun count (b ++ (x ∷ [])) (l ++ (pos y ∷ [])) r.after
@@ -258,8 +257,8 @@ begun-length : {n : ℕ} {b l : List ℤ} {T : Tables} → Begun n b l T → len
 unfolding held open_act
 begun-length {n} {b} {l} {T} o =
     let k = open_act n b l in
-    let u : Outcome Opened = outcome (opening.Done o.sum) T in
-    let j : first (k.tests o.before) ≡ Fine = done-fine k o.before (first (k.tests o.before)) u (λ r e. let z : ◌≡◌ {A = ℕ} 0 1 = cc in omega arith) o.promise in
+    let u : Outcome (Result ℤ Refusal) = outcome (Ok o.sum) T in
+    let j : first (k.tests o.before) ≡ Ok tt = done-fine k o.before (first (k.tests o.before)) u (λ r e. let z : ◌≡◌ {A = ℕ} 0 1 = cc in omega arith) o.promise in
     let f : OpenFine o.before n b l = open-fine j in
     f.opening.balances
 

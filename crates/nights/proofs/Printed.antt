@@ -14,8 +14,8 @@ use Rattle.tables.specs.Holds.{Holds}
 use Rattle.answers.specs.Outcome.{Outcome, outcome, Act, decided, held, judgement}
 use Rattle.answers.specs.declared.Refusal.{Refusal}
 use Rattle.answers.specs.declared.Refusal.TheVariants.{Line as BadLine}
-use Rattle.answers.specs.declared.Judged.{Judged}
-use Rattle.answers.specs.declared.Judged.TheVariants.{Fine, Bad}
+use Rattle.std.specs.Prelude.{Ok, Err}
+use Rattle.answers.specs.Codes.{Judged}
 use Rattle.answers.proofs.Outcomes.{judgement-held}
 use Rattle.entry.specs.Deposit.{deposit_act}
 use Rattle.entry.specs.Submit.{submit_act}
@@ -57,23 +57,23 @@ module _ {t : Tables} (h : Holds t) (i : ℕ) where
 
   pay-says : (kind m k q x : ℕ) (j : Judged) → (saying (pay_says i m k) (decided (submit_act m k q x) t j)).answer ≡ printed_as i t (E.pay kind m k q x) j
   unfolding submit_act
-  pay-says kind m k q x Fine = refl
-  pay-says kind m k q x (Bad r) = refl
+  pay-says kind m k q x (Ok u) = refl
+  pay-says kind m k q x (Err r) = refl
 
   deposit-says : (m x : ℕ) (j : Judged) → (saying (deposit_says i m) (decided (deposit_act m x) t j)).answer ≡ printed_as i t (E.deposit m x) j
   unfolding deposit_act
-  deposit-says m x Fine = refl
-  deposit-says m x (Bad r) = refl
+  deposit-says m x (Ok u) = refl
+  deposit-says m x (Err r) = refl
 
   release-says : (m : ℕ) (j : Judged) → (saying (release_says i) (decided (release_act m) t j)).answer ≡ printed_as i t (E.release m) j
   unfolding release_act
-  release-says m Fine = refl
-  release-says m (Bad r) = refl
+  release-says m (Ok u) = refl
+  release-says m (Err r) = refl
 
   group-says : (k : List ℕ) (j : Judged) → (saying (group_says i) (decided (group_act k) t j)).answer ≡ printed_as i t (E.group k) j
   unfolding group_act book_act
-  group-says k Fine = refl
-  group-says k (Bad r) = refl
+  group-says k (Ok u) = refl
+  group-says k (Err r) = refl
 
   abbrev answer_of : Outcome Says → Says
   answer_of u = u.answer
@@ -87,10 +87,10 @@ module _ {t : Tables} (h : Holds t) (i : ℕ) where
   call-prints E.resolve = refl
 
   -- a refused line prints its code, and changes nothing
-  refused-does : {A : Type 0} (say : A → Says) (k : Act A) {r : Refusal} → judgement k t ≡ Bad r → saying say (held k t) ≡ saying say (outcome (k.refuse r) t)
+  refused-does : {A : Type 0} (say : A → Says) (k : Act A) {r : Refusal} → judgement k t ≡ Err r → saying say (held k t) ≡ saying say (outcome (k.refuse r) t)
   refused-does say k e = judged-line say k ∙ ap (λ (j : Judged). saying say (decided k t j)) e
 
-  call-refused : (d : DayLine) {r : Refusal} → judged_call t d ≡ Bad r → call_does i t d ≡ outcome (refusal i r) t
+  call-refused : (d : DayLine) {r : Refusal} → judged_call t d ≡ Err r → call_does i t d ≡ outcome (refusal i r) t
   unfolding submit_act deposit_act release_act group_act book_act
   call-refused (E.pay kind m k q x) e = refused-does (pay_says i m k) (submit_act m k q x) e
   call-refused (E.deposit m x) e = refused-does (deposit_says i m) (deposit_act m x) e
@@ -98,7 +98,7 @@ module _ {t : Tables} (h : Holds t) (i : ℕ) where
   call-refused (E.group k) e = refused-does (group_says i) (group_act k) e
   call-refused E.resolve e = absurd (let z : ◌≡◌ {A = ℕ} 0 1 = cc in omega arith)
 
-  pub line_refused : (e : Entry) {r : Refusal} → judged_line t e ≡ Bad r → day_does i t e ≡ says (refusal i r) G.Day t
+  pub line_refused : (e : Entry) {r : Refusal} → judged_line t e ≡ Err r → day_does i t e ≡ says (refusal i r) G.Day t
   line_refused (E.opening o) {r} q = let e : BadLine ≡ r = cc in ap (λ (r : Refusal). says (refusal i r) G.Day t) e
   line_refused (E.day d) q = ap (λ (u : Outcome Says). says u.answer G.Day u.after) (call-refused d q)
   line_refused E.end q = absurd (let z : ◌≡◌ {A = ℕ} 0 1 = cc in omega arith)
@@ -116,17 +116,17 @@ reads-join es bs cs ds r q = record {
 }
 
 reads-settled : (j : Judged) (z : Counts) → Reads (accepted j (settle z ∷ []) ++ []) []
-reads-settled Fine z = record { totals = λ k. refl; paid = λ k. refl }
-reads-settled (Bad r) z = record { totals = λ k. refl; paid = λ k. refl }
+reads-settled (Ok u) z = record { totals = λ k. refl; paid = λ k. refl }
+reads-settled (Err r) z = record { totals = λ k. refl; paid = λ k. refl }
 
 module _ {t : Tables} (h : Holds t) (i n : ℕ) where
   read-pay : (kind m k q x : ℕ) (c : List Call) (j : Judged) → accepted j c ++ [] ≡ if_queued (printed_as i t (E.pay kind m k q x) j ∷ []) c
-  read-pay kind m k q x c Fine = append-nil c
-  read-pay kind m k q x c (Bad r) = refl
+  read-pay kind m k q x c (Ok u) = append-nil c
+  read-pay kind m k q x c (Err r) = refl
 
   read-deposit : (m x : ℕ) (c : List Call) (j : Judged) → accepted j c ++ [] ≡ if_deposited (printed_as i t (E.deposit m x) j ∷ []) c
-  read-deposit m x c Fine = append-nil c
-  read-deposit m x c (Bad r) = refl
+  read-deposit m x c (Ok u) = append-nil c
+  read-deposit m x c (Err r) = refl
 
   call-reads : (d : DayLine) → Reads (made (request_of n d ∷ []) t) (read_call d ((call_does i t d).answer ∷ []))
   call-reads (E.pay kind m k q x) =

@@ -1,6 +1,6 @@
 -- What the lines of a day print, and what can be read off a file and its sheet: the accepted deposits and payments. i is the number of a
 -- line, t the tables that it finds.
-use Rattle.std.specs.Prelude.{◌≡◌, List, [], ◌∷◌, ◌++◌, ℕ, ◌+◌, ◌-◌, pos, ◌+ℤ◌}
+use Rattle.std.specs.Prelude.{◌≡◌, List, [], ◌∷◌, ◌++◌, ℕ, ◌+◌, ◌-◌, pos, ◌+ℤ◌, Ok, Err}
 use Rattle.rule.specs.Kernel.{sum}
 use Rattle.rule.specs.House.{sent}
 use Rattle.rule.specs.Payment.{word}
@@ -9,8 +9,7 @@ use Rattle.tables.specs.Layout.{Tables, members_in, house_in, balance_of, settle
 use Rattle.booking.specs.Booking.{listed}
 use Rattle.answers.specs.Outcome.{judgement}
 use Rattle.answers.specs.declared.Refusal.TheVariants.{Line as BadLine}
-use Rattle.answers.specs.declared.Judged.{Judged}
-use Rattle.answers.specs.declared.Judged.TheVariants.{Fine, Bad}
+use Rattle.answers.specs.Codes.{Judged}
 use Rattle.entry.specs.Deposit.{deposit_act}
 use Rattle.entry.specs.Submit.{submit_act}
 use Rattle.settling.specs.Release.{release_act, head_amount}
@@ -33,13 +32,13 @@ judged_call t (E.pay kind m k q x) = judgement (submit_act m k q x) t
 judged_call t (E.deposit m x) = judgement (deposit_act m x) t
 judged_call t (E.release m) = judgement (release_act m) t
 judged_call t (E.group k) = judgement (group_act k) t
-judged_call t E.resolve = Fine
+judged_call t E.resolve = Ok tt
 
 abbrev pub judged_line : Tables → Entry → Judged
-judged_line t (E.opening o) = Bad BadLine
+judged_line t (E.opening o) = Err BadLine
 judged_line t (E.day d) = judged_call t d
-judged_line t E.end = Fine
-judged_line t E.bad = Bad BadLine
+judged_line t E.end = Ok tt
+judged_line t E.bad = Err BadLine
 
 -- what it prints where it is accepted
 abbrev pub accepted_says : ℕ → Tables → DayLine → Says
@@ -51,8 +50,8 @@ accepted_says i t E.resolve = resolve_says i (members_in t) (house_in t) (listed
 
 -- so judged, a call prints one line: that, or `refused` and its code
 abbrev pub printed_as : ℕ → Tables → DayLine → Judged → Says
-printed_as i t d Fine = accepted_says i t d
-printed_as i t d (Bad r) = refusal i r
+printed_as i t d (Ok u) = accepted_says i t d
+printed_as i t d (Err r) = refusal i r
 
 -- ---- the lines of a day
 

@@ -1,6 +1,7 @@
 // Reads a day file on standard input and writes its sheet on standard output.
 #![tactic(auto)]
 
+use desk::Buffers;
 use nightloop::Streams;
 use std::env::{Env, FillError};
 use std::io::{Stderr, Write};
@@ -25,18 +26,18 @@ fn main(rt: HostRuntime) {
 // Says how the program is called.
 fn tell_usage(errors: Stderr) {
     let mut errors = errors;
-    let _said = errors
-        .write_all(
-            b"usage: nightsheet < DAYFILE\nReads a day file on standard input and writes its sheet on standard output.\n",
-        )
-        .is_ok();
+    let _ = errors.write_all(
+        b"usage: nightsheet < DAYFILE\nReads a day file on standard input and writes its sheet on standard output.\n",
+    );
 }
 
 // One night, from the first line to the last.
 fn night(streams: Streams) {
     let mut chunk = [0u8; nightloop::OUT];
-    let mut buf = [0u8; dayfile::lines::MOST_BYTES];
-    let mut counts = [0u64; dayfile::MOST_COUNTS];
+    let mut buffers = Buffers {
+        line: [0u8; dayfile::lines::MOST_BYTES],
+        counts: [0u64; dayfile::MOST_COUNTS],
+    };
     let mut accounts = [0i64; House::TABLE];
     let mut counters = [0u32; House::TABLE];
     let mut pays = [0u64; House::PLACES];
@@ -44,8 +45,7 @@ fn night(streams: Streams) {
     nightloop::whole(
         streams,
         &mut chunk,
-        &mut buf,
-        &mut counts,
+        &mut buffers,
         &mut accounts,
         &mut counters,
         &mut pays,

@@ -7,8 +7,7 @@ use native.Mathlib.Nat.{pow-suc}
 use lib.ListN.{length, get_or, get_or-append}
 use borrow.Author.Tests.{le-ltb, ne_eqb}
 use lib.IntN.{ℤ, pos, negsuc, nat_abs}
-use Rattle.numbers.specs.declared.Number.TheVariants.{Value}
-use Rattle.numbers.specs.declared.Signed.TheVariants.{Whole}
+use Rattle.std.specs.Prelude.{Some}
 use Rattle.numbers.specs.Numbers.{most_digits, from_zero, below_zero, signed_of, digits_from, number_of, last_digits, width_up_to, width_of, digits_of, signed_text}
 use Rattle.numbers.proofs.Writing.{length_digits, length-digits_of, width-pos, width-enough, width_low}
 
@@ -33,7 +32,7 @@ lead (suc w) x a b =
     rw (get_or-append (last_digits (suc w) (x / 10)) ((48 + x % 10) ∷ []) 0 0 n) (lead w (x / 10) (omega arith) (omega arith))
 
 -- a number below 10^18 is read back
-pub round_trip : (x : ℕ) → x < 10 ^ most_digits → number_of (digits_of x) ≡ Value x
+pub round_trip : (x : ℕ) → x < 10 ^ most_digits → number_of (digits_of x) ≡ Some x
 unfolding digits_from last_digits width_up_to
 round_trip zero h = refl
 round_trip (suc n) h =
@@ -65,12 +64,12 @@ no_sign n q =
     let g : 48 ≤ get_or (digits_of n) 0 0 = rw e h in
     omega arith
 
-plus-text : (n : ℕ) → n < 10 ^ most_digits → signed_of (digits_of n) ≡ Whole (pos n)
+plus-text : (n : ℕ) → n < 10 ^ most_digits → signed_of (digits_of n) ≡ Some (pos n)
 plus-text n h =
     let r = round_trip n h in
     rw (ne_eqb (get_or (digits_of n) 0 0) 45 (no_sign n)) (ap from_zero r)
 
 -- and so is a whole number of that magnitude
-pub signed-trip : (z : ℤ) → nat_abs z < 10 ^ most_digits → signed_of (signed_text z) ≡ Whole z
+pub signed-trip : (z : ℤ) → nat_abs z < 10 ^ most_digits → signed_of (signed_text z) ≡ Some z
 signed-trip (pos n) h = plus-text n h
 signed-trip (negsuc n) h = ap below_zero (round_trip (suc n) h)

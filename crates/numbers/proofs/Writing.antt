@@ -3,9 +3,8 @@ use native.Mathlib.Omega.{arith}
 use mathlib.Core.Path.{◌≡◌, refl, sym, ap, ◌∙◌}
 use mathlib.Core.Bool.{Bool, true, false, cond}
 use mathlib.Core.List.{List, [], ◌∷◌, ◌++◌}
-use Prim.Native.Nat.{ℕ, zero, suc, ◌+◌, ◌-◌, ◌*◌, ◌/◌, ◌%◌, ◌^◌, ◌≤◌, ◌<◌}
-use native.Mathlib.Nat.{pow-suc, add-zero, pow-le-pow_right}
-use native.Mathlib.Numerals.{add-one}
+use Prim.Native.Nat.{ℕ, max, zero, suc, ◌+◌, ◌-◌, ◌*◌, ◌/◌, ◌%◌, ◌^◌, ◌≤◌, ◌<◌}
+use native.Mathlib.Nat.{pow-suc, add-zero, max-eq_left, one-le-pow}
 use lib.Dec.{ltb}
 use lib.ListN.{length, set, length-append}
 use lib.Seq.{sets, set_comm}
@@ -41,23 +40,6 @@ put_step l at k y h =
     let f = length_digits (k - 1) (y / 10) in
     let g : sets l at (last_digits (suc (k - 1)) y) ≡ sets (set l (at + (k - 1)) (48 + y % 10)) at (last_digits (k - 1) (y / 10)) = q ∙ rw f in
     sym (ap (λ (n : ℕ). sets l at (last_digits n y)) e ∙ g)
-
--- two digits of those still to be written, the last
-pub put_two : (l : List ℕ) (at k y : ℕ) → 1 < k
-    → sets (set (set l (at + (k - 2) + 1) (48 + y % 100 % 10)) (at + (k - 2)) (48 + y % 100 / 10)) at (last_digits (k - 2) (y / 100)) ≡ sets l at
-    (last_digits k y)
-put_two l at k y h =
-    let a : at + (k - 2) + 1 ≡ at + (k - 1) = omega arith in
-    let b : k - 2 ≡ k - 1 - 1 = omega arith in
-    let d : y % 100 % 10 ≡ y % 10 = omega arith in
-    let e : y % 100 / 10 ≡ y / 10 % 10 = omega arith in
-    let f : y / 100 ≡ y / 10 / 10 = omega arith in
-    rw (a, b, d, e, f) (put_step (set l (at + (k - 1)) (48 + y % 10)) at (k - 1) (y / 10) (omega arith) ∙ put_step l at k y (omega arith))
-
--- the one digit that is left
-pub put_one : (l : List ℕ) (at k y : ℕ) → k ≡ 1 → set l at (48 + y % 10) ≡ sets l at (last_digits k y)
-unfolding last_digits
-put_one l at k y e = rw e
 
 pub put-end : (l : List ℕ) (at k y : ℕ) → k ≤ 0 → sets l at (last_digits k y) ≡ l
 unfolding last_digits
@@ -96,11 +78,6 @@ width-le (suc f) x (suc (suc k)) h b = by-ltb x 10 (λ w. cond w 1 (suc (width_u
 
 -- ---- counting the digits
 
-width-most : (f x : ℕ) → width_up_to f x ≤ suc f
-unfolding width_up_to
-width-most zero x = omega arith
-width-most (suc f) x = by-ltb x 10 (λ w. cond w 1 (suc (width_up_to f (x / 10))) ≤ suc (suc f)) (λ l. omega arith) (λ l. omega (arith, width-most f (x / 10)))
-
 width-more : (f x n : ℕ) → n ≤ f → 10 ^ n ≤ x → n < width_up_to f x
 unfolding width_up_to
 width-more f x zero h b = width-pos f x
@@ -115,38 +92,18 @@ width-more (suc f) x (suc n) h b =
     pow_pos zero = omega arith
     pow_pos (suc n) = rw pow-suc (omega (arith, pow_pos n))
 
--- x has n digits or more, and p is ten to the power of n
-pub record Wide (x n p : ℕ) : Type 0 where
-  pub some : 1 ≤ n
-  pub few : n ≤ 19
-  pub power : p ≡ 10 ^ n
-  pub least : n ≤ width_of x
-
--- a number has one digit,
-pub wide-one : (x : ℕ) → Wide x 1 10
-wide-one x = record { some = omega arith; few = omega arith; power = refl; least = width-pos 19 x }
-
-module _ {x n p : ℕ} (w : Wide x n p) where
-  -- and one more, where it is not below the power;
-  pub wide-more : n < 19 → p ≤ x → Wide x (n + 1) (p * 10)
-  wide-more h l = record {
-    some = omega arith;
-    few = omega arith;
-    power = rw (w.power, add-one n) (sym (pow-suc 10 n));
-    least = let b : 10 ^ n ≤ x = omega (arith, w.power) in omega (arith, width-more 19 x n w.few b);
-  }
-
-  -- the next power is in the range of a u64;
-  pub wide_fits : n < 19 → p * 10 < 2 ^ 64
-  wide_fits h = let m : 10 ^ n ≤ 10 ^ 18 = pow-le-pow_right {n = 10} (omega arith) {i = n} {j = 18} (omega arith) in omega (arith, w.power)
-
-  -- one below it has no more digits,
-  pub wide_is : x < p → n ≡ width_of x
-  wide_is l = let b : x < 10 ^ n = omega (arith, w.power) in omega (arith, w.least, width-le 19 x n w.some b)
-
-  -- and one above the last power has all
-  pub wide-all : n ≡ 19 → p ≤ x → 20 ≡ width_of x
-  wide-all e l = let b : 10 ^ n ≤ x = omega (arith, w.power) in omega (arith, width-more 19 x n w.few b, width-most 19 x)
+-- where 10^k is the last power that is at most x, or at most 1 for 0, x has k + 1 digits
+pub width_is : (x m k : ℕ) → m ≡ max x 1 → 10 ^ k ≤ m → m < 10 * 10 ^ k → k < 20 → k + 1 ≡ width_of x
+unfolding width_up_to
+width_is zero m zero e h l b = refl
+width_is zero m (suc k) e h l b =
+    let p : 10 ^ k * 10 ≤ m = rw pow-suc at h in
+    let q : 1 ≤ 10 ^ k = one-le-pow k 10 (omega arith) in
+    absurd (omega arith)
+width_is (suc x) m k e h l b =
+    let f : m ≡ suc x = rw e (max-eq_left (omega arith)) in
+    let up : suc x < 10 ^ suc k = rw (pow-suc) (omega arith) in
+    omega (arith, width-more 19 (suc x) k (omega arith) (omega arith), width-le 19 (suc x) (suc k) (omega arith) up)
 
 -- a number of k digits or fewer is written in at most k bytes
 pub length-digits_of : (x k : ℕ) → 0 < k → x < 10 ^ k → length (digits_of x) ≤ k

@@ -15,7 +15,7 @@ use Rattle.tables.specs.State.{every, holder_ok, sized}
 use Rattle.tables.proofs.Tests.{and_both, le-true}
 use Rattle.tables.proofs.Every.{every-at}
 use Rattle.answers.specs.Codes.{first}
-use Rattle.answers.specs.declared.Judged.TheVariants.{Fine}
+use Rattle.std.specs.Prelude.{Ok}
 use Rattle.answers.proofs.Judging.{first_fine}
 use Rattle.opening.specs.Open.{entry, opens_at, is_opening, open_tests, open_act}
 
@@ -53,7 +53,7 @@ opening-fine n b l e =
     }
 
 -- tests that find nothing say so of the tables too
-pub open-fine : {T : Tables} {n : ℕ} {b l : List ℤ} → first ((open_act n b l).tests T) ≡ Fine → Opens T n b l
+pub open-fine : {T : Tables} {n : ℕ} {b l : List ℤ} → first ((open_act n b l).tests T) ≡ Ok tt → Opens T n b l
 unfolding open_act
 open-fine {T} {n} {b} {l} e =
     let f = first_fine (open_tests T n b l) e in

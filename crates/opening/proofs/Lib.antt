@@ -1,2 +1,4 @@
 pub mod Judging
+pub mod Filled
+pub mod Pairs
 pub mod Opens

@@ -1,5 +1,5 @@
 -- Open: n members with balances b and lines l (document 01, "Open"; codes 1, 11). The sum of balances is told.
-use Rattle.std.specs.Prelude.{Bool, cond, not, ◌&&◌, List, [], ◌∷◌, ℕ, ◌-◌, eqb, leb, ltb, ℤ, pos, length, get_or}
+use Rattle.std.specs.Prelude.{Bool, cond, not, ◌&&◌, List, [], ◌∷◌, ℕ, ◌-◌, eqb, leb, ltb, ℤ, pos, length, get_or, Ok, Err, Result}
 use Rattle.std.specs.Int.Signed.{le_z}
 use Rattle.rule.specs.Lists.{fill}
 use Rattle.rule.specs.House.{money}
@@ -9,8 +9,7 @@ use Rattle.tables.specs.State.{every, holder_ok, sized}
 use Rattle.answers.specs.Codes.{Test, test}
 use Rattle.answers.specs.Outcome.{Act, outcome}
 use Rattle.answers.specs.declared.Refusal.TheVariants.{State, Opening}
-use Rattle.answers.specs.declared.Opened.{Opened}
-use Rattle.answers.specs.declared.Opened.TheVariants.{Done, Refused}
+use Rattle.answers.specs.declared.Refusal.{Refusal}
 
 abbrev pub entry : List ℤ → ℕ → ℤ
 entry l i = get_or l i (pos 0)
@@ -43,5 +42,5 @@ opened_in T n b l = tables (fill table (account_opened n b l) T.accounts) (fill 
 
 -- ---- the call, on any tables: it asks for no state
 
-unfoldable pub open_act : ℕ → List ℤ → List ℤ → Act Opened
-open_act n b l = record { refuse = Refused; tests = λ T. open_tests T n b l; does = λ T. outcome (Done (money n (entry b))) (opened_in T n b l) }
+unfoldable pub open_act : ℕ → List ℤ → List ℤ → Act (Result ℤ Refusal)
+open_act n b l = record { refuse = Err; tests = λ T. open_tests T n b l; does = λ T. outcome (Ok (money n (entry b))) (opened_in T n b l) }

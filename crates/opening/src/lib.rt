@@ -10,12 +10,12 @@ ghost use Rattle.answers.specs.Codes.{first};
 ghost use Rattle.answers.specs.Outcome.{outcome, held};
 ghost use Rattle.opening.specs.Open.{opens_at, is_opening, open_tests, account_opened, counter_opened, open_act};
 
-use answers::{Judged, Opened, Refusal};
+use answers::Refusal;
 use tables::House;
 use tables::look::{holder_ok, total};
-use tables::steps::{at_most, signed};
 
 // Opens a house of `count` members on lent tables, whatever they held.
+// Kept: balances and lines are two lists, as the export for C is lent them.
 pub fn open(
     accounts: &mut [i64],
     counters: &mut [u32],
@@ -23,20 +23,15 @@ pub fn open(
     count: u64,
     balances: &[i64],
     lines: &[i64],
-) -> Opened
+) -> Result<i64, Refusal>
     ensures { outcome result (tables accounts.new counters.new pays.new) ≡ held (open_act count balances.now lines.now) (tables accounts.old counters.old pays.old) }
 {
-    let j = judge(accounts, counters, pays, count, balances, lines);
-    match j {
-        Judged::Bad(r) => Opened::Refused(r),
-        Judged::Fine => {
-            let n = count as usize;
-            fill_accounts(accounts, n, balances, lines);
-            fill_counters(counters, n);
-            fill_pays(pays);
-            Opened::Done(total(balances, n))
-        }
-    }
+    judge(accounts, counters, pays, count, balances, lines)?;
+    let n = count as usize;
+    fill_accounts(accounts, balances, lines);
+    fill_counters(counters, n);
+    fill_pays(pays);
+    Ok(total(balances, n))
 }
 
 // Codes 1 and 11.
@@ -47,44 +42,30 @@ fn judge(
     count: u64,
     balances: &[i64],
     lines: &[i64],
-) -> Judged
+) -> Result<(), Refusal>
     ensures { result ≡ first (open_tests (tables accounts.now counters.now pays.now) count balances.now lines.now) }
 {
-    if accounts.len() < House::TABLE {
-        return Judged::Bad(Refusal::State);
-    }
-    if counters.len() < House::TABLE {
-        return Judged::Bad(Refusal::State);
-    }
-    if pays.len() < House::PLACES {
-        return Judged::Bad(Refusal::State);
+    if accounts.len() < House::TABLE
+        || counters.len() < House::TABLE
+        || pays.len() < House::PLACES
+    {
+        return Err(Refusal::State);
     }
     if !is_opening(count, balances, lines) {
-        return Judged::Bad(Refusal::Opening);
+        return Err(Refusal::Opening);
     }
-    Judged::Fine
+    Ok(())
 }
 
 // 1 to 64 members, both lists that long, each member in order, and the sum at most 10^15.
 fn is_opening(count: u64, balances: &[i64], lines: &[i64]) -> bool
     ensures { result ≡ is_opening count balances.now lines.now }
 {
-    if count < 1 {
-        return false;
-    }
-    if count > House::MEMBERS as u64 {
-        return false;
-    }
-    if balances.len() as u64 != count {
-        return false;
-    }
-    if lines.len() as u64 != count {
-        return false;
-    }
-    if !holders_ok(balances, lines) {
-        return false;
-    }
-    at_most(total(balances, balances.len()), signed(House::MOST))
+    (1..=House::MEMBERS as u64).contains(&count)
+        && balances.len() as u64 == count
+        && lines.len() as u64 == count
+        && holders_ok(balances, lines)
+        && total(balances, balances.len()) <= House::MOST as i64
 }
 
 // Each member's balance and line are in order.
@@ -92,44 +73,19 @@ fn holders_ok(balances: &[i64], lines: &[i64]) -> bool
     requires { length lines.now ≡ length balances.now }
     ensures { result ≡ every (opens_at balances.now lines.now) (length balances.now) }
 {
-    let mut i = 0;
-    while i < balances.len() {
-        if !holder_ok(balances[i], lines[i]) {
-            return false;
-        }
-        i += 1;
-    }
-    true
+    balances.iter().zip(lines).all(|(&b, &l)| holder_ok(b, l))
 }
 
 // The balances and the lines, and 0 elsewhere.
-fn fill_accounts(accounts: &mut [i64], n: usize, balances: &[i64], lines: &[i64])
+fn fill_accounts(accounts: &mut [i64], balances: &[i64], lines: &[i64])
     requires table_in_bounds { table ≤ length accounts.old }
-    requires n_le_members { (n ≤ members) × (length balances.now ≡ n) × (length lines.now ≡ n) }
-    ensures { accounts.new ≡ fill table (account_opened n balances.now lines.now) accounts.old }
+    requires n_le_members { (length balances.now ≤ members) × (length lines.now ≡ length balances.now) }
+    ensures { accounts.new ≡ fill table (account_opened (length balances.now) balances.now lines.now) accounts.old }
 {
-    let mut k = 0;
-    while k < House::TABLE {
-        accounts[k] = account_at(n, balances, lines, k);
-        k += 1;
-    }
-}
-
-fn account_at(n: usize, balances: &[i64], lines: &[i64], k: usize) -> i64
-    requires { (n ≤ members) × (length balances.now ≡ n) × (length lines.now ≡ n) }
-    ensures { result ≡ account_opened n balances.now lines.now k }
-{
-    if k < n {
-        return balances[k];
-    }
-    if k < House::LINES_AT {
-        return 0;
-    }
-    let i = k - House::LINES_AT;
-    if i < n {
-        return lines[i];
-    }
-    0
+    let n = balances.len();
+    accounts[..House::TABLE].fill(0);
+    accounts[..n].copy_from_slice(balances);
+    accounts[House::LINES_AT..House::LINES_AT + n].copy_from_slice(lines);
 }
 
 // The count, and 0 elsewhere.
@@ -137,11 +93,8 @@ fn fill_counters(counters: &mut [u32], n: usize)
     requires { (table ≤ length counters.old) × (n ≤ members) }
     ensures { counters.new ≡ fill table (counter_opened n) counters.old }
 {
-    let mut k = 0;
-    while k < House::TABLE {
-        counters[k] = if k == 0 { n as u32 } else { 0 };
-        k += 1;
-    }
+    counters[..House::TABLE].fill(0);
+    counters[House::MEMBERS_AT] = n as u32;
 }
 
 // No payment waits.
@@ -149,9 +102,5 @@ fn fill_pays(pays: &mut [u64])
     requires { places ≤ length pays.old }
     ensures { pays.new ≡ fill places (λ k. 0) pays.old }
 {
-    let mut k = 0;
-    while k < House::PLACES {
-        pays[k] = 0;
-        k += 1;
-    }
+    pays[..House::PLACES].fill(0);
 }

@@ -1,21 +1,20 @@
 -- What the steps of a resolution give: the finder's largest set is the tables' own, its counts can be booked, and what is booked and told is the promise.
 use mathlib.Core.Path.{◌≡◌, refl, sym, ap, ◌∙◌}
 use mathlib.Core.List.{List}
-use Prim.Native.Nat.{ℕ, ◌+◌, ◌≤◌, ◌<◌}
+use Prim.Native.Nat.{ℕ, ◌+◌, ◌-◌, ◌≤◌, ◌<◌}
 use native.Mathlib.Decide.{dec_lt}
 use native.Mathlib.Omega.{arith}
 use lib.Dec.{ltb}
 use lib.IntN.{ℤ, pos}
-use lib.ListN.{length, get_or, take, replicate, length-replicate, get_or-replicate, get_or-eq_default}
-use lib.Seq.{ext_get_or, get_or-take, length-take-le}
+use lib.ListN.{length, get_or, take, drop, replicate, length-replicate, get_or-replicate, get_or-eq_default}
+use lib.Seq.{ext_get_or, get_or-take, get_or-drop, length-take-le}
 use borrow.Author.Tests.{lt-ltb, le-ltb}
 use Rattle.rule.specs.Ints.{up}
-use Rattle.rule.specs.Lists.{fill}
 use Rattle.rule.specs.Kernel.{Counts, sum}
 use Rattle.rule.specs.House.{waits, sent, received, LargestSet, Same}
 use Rattle.rule.specs.Verdict.{verdict_of}
 use Rattle.rule.specs.Resolution.{resolution}
-use Rattle.rule.proofs.Lists.{fill-length, fill-at, length-listing, get_or-listing}
+use Rattle.rule.proofs.Lists.{length-listing, get_or-listing}
 use Rattle.rule.proofs.Kernel.{largest-unique, largest-cong}
 use Rattle.rule.proofs.Cover.{covered-lawful}
 use Rattle.rule.proofs.Resolution.{resolution-largest}
@@ -27,7 +26,7 @@ use Rattle.finder.specs.Resolve.{Sits, LargestFound, house_from}
 use Rattle.finder.proofs.Tops.{queue-grows}
 use Rattle.finder.proofs.Counts.{counted-largest, counted-positions}
 use Rattle.tables.specs.Sizes.{members}
-use Rattle.tables.specs.Layout.{Tables, members_in, waiting_in, house_in, settled_of, line_of}
+use Rattle.tables.specs.Layout.{Tables, members_in, waiting_in, house_in, settled_of, lines_at, line_of}
 use Rattle.tables.specs.Holds.{Holds}
 use Rattle.tables.proofs.Houses.{holds-payers, holds-sound, no-queue, waiting-sum}
 use Rattle.booking.specs.Booking.{listed, booked_in, Counted, Weighed}
@@ -35,12 +34,20 @@ use Rattle.booking.proofs.Entering.{can-enter}
 use Rattle.booking.proofs.Kept.{counts-sum, booked-count, booked-last}
 use Rattle.booking.proofs.Reading.{settled-booked}
 use Rattle.answers.specs.declared.Resolution.{Resolution}
-use Rattle.answers.specs.declared.Resolved.TheVariants.{Done}
+use Rattle.std.specs.Prelude.{Ok}
 use Rattle.answers.specs.Outcome.{outcome}
 use Rattle.answers.specs.Verdicts.{named}
 use Rattle.resolving.specs.Resolve.{largest_in, still_waits, told, resolve_act, has_waiting, Balances, LargestIs}
 
 -- ---- the largest set
+
+-- what is read from the lines on are the lines
+pub lines_read : {T : Tables} → Holds T → (ls : List ℤ) → let a = T.accounts in
+    ((i : ℕ) → i < members → get_or ls i (pos 0) ≡ get_or (take (length a - lines_at) (drop lines_at a)) i (pos 0))
+    → (i : ℕ) → i < members → get_or ls i (pos 0) ≡ line_of a i
+lines_read {T} h ls e i q =
+    let a = T.accounts in
+    e i q ∙ get_or-take (length a - lines_at) (drop lines_at a) i (pos 0) (omega (arith, h.accounts.long)) ∙ get_or-drop lines_at a i (pos 0)
 
 module _ {T : Tables} (h : Holds T) {bs : List ℤ} (b : Balances T.accounts bs) (ls : List ℤ) (each_line : length ls ≡ members)
     (same_line : (i : ℕ) → i < members → get_or ls i (pos 0) ≡ line_of T.accounts i) where
@@ -88,13 +95,6 @@ resolution-same : (x y : Resolution) → x.verdict ≡ y.verdict → x.payments 
 resolution-same x y v p s w j = record { verdict = v j; payments = p j; sum = s j; waiting = w j }
 
 -- ---- the list told
-
--- a list filled with the first of another is their part
-pub fill-take : (all r : List ℕ) → length r ≤ length all → fill (length r) (listed all) r ≡ take (length r) all
-fill-take all r h =
-    let e = fill-length (listed all) r (length r) (omega arith) in
-    ext_get_or 0 (fill (length r) (listed all) r) (take (length r) all) (e ∙ sym (length-take-le (length r) all h))
-    (λ i q. let l : i < length r = omega arith in fill-at (listed all) r (length r) i 0 l ∙ sym (get_or-take (length r) all i 0 l))
 
 ltb-plus : (s z w : ℕ) → ltb (s + z) (s + w) ≡ ltb z w
 ltb-plus s z w = elim (dec_lt z w) [
@@ -158,7 +158,7 @@ module _ {T : Tables} {all : List ℕ} (h : Holds T) (l : LargestIs T all) where
       → k' ≡ take (members_in T) all → x.verdict ≡ named (verdict_of (waiting_in T) (sum members (listed all))) → x.payments ≡ sum members (listed all)
       → x.sum ≡ sum (members_in T) (sent (house_in T) (listed all))
       → x.waiting ≡ set_of (members_in W) (has_waiting W.counters)
-      → outcome (Done x, k') W ≡ (resolve_act k).does T
+      → outcome (Ok x, k') W ≡ (resolve_act k).does T
   unfolding resolve_act
   settles k x eb ek ev en es ew =
       let y : x ≡ told (members_in T) (house_in T) (listed all) = resolution-same x (told (members_in T) (house_in T) (listed all))
@@ -167,5 +167,5 @@ module _ {T : Tables} {all : List ℕ} (h : Holds T) (l : LargestIs T all) where
       (en ∙ each-counted)
       es
       (ew ∙ ap (λ (Y : Tables). set_of (members_in Y) (has_waiting Y.counters)) eb ∙ ends) in
-      (λ j. outcome (Done (y j), (ek ∙ largest-take) j) (eb j))
-      ∙ ap (λ (z : Counts). outcome (Done (told (members_in T) (house_in T) z), largest_in T) (booked_in T z)) largest-all
+      (λ j. outcome (Ok (y j), (ek ∙ largest-take) j) (eb j))
+      ∙ ap (λ (z : Counts). outcome (Ok (told (members_in T) (house_in T) z), largest_in T) (booked_in T z)) largest-all

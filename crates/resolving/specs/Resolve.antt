@@ -1,6 +1,6 @@
 -- Resolve: the largest allowed set is booked (document 01, "Resolve", "Verdict"; codes 1, 10). T are the tables before,
 -- k is the lent list of counts; H is a house of n members, z a set of payments as counts, i a member.
-use Rattle.std.specs.Prelude.{◌≡◌, Bool, not, List, [], ◌∷◌, ℕ, ◌≤◌, ◌<◌, eqb, ltb, ℤ, pos, length, get_or}
+use Rattle.std.specs.Prelude.{◌≡◌, Bool, not, List, [], ◌∷◌, ℕ, ◌≤◌, ◌<◌, eqb, ltb, ℤ, pos, length, get_or, Ok, Err, Result}
 use Rattle.rule.specs.Lists.{listing}
 use Rattle.rule.specs.Kernel.{Counts, sum}
 use Rattle.rule.specs.House.{House, waits, sent, LargestSet}
@@ -15,8 +15,7 @@ use Rattle.answers.specs.Outcome.{Act, outcome}
 use Rattle.answers.specs.Verdicts.{named}
 use Rattle.answers.specs.declared.Refusal.TheVariants.{Counts as BadCounts}
 use Rattle.answers.specs.declared.Resolution.{Resolution}
-use Rattle.answers.specs.declared.Resolved.{Resolved}
-use Rattle.answers.specs.declared.Resolved.TheVariants.{Done, Refused}
+use Rattle.answers.specs.declared.Refusal.{Refusal}
 
 -- the counts of the largest allowed set, one for each member
 unfoldable pub largest_in : Tables → List ℕ
@@ -32,17 +31,17 @@ abbrev pub told : ℕ → House → Counts → Resolution
 told n H z = record { verdict = named (verdict n H z); payments = sum n z; sum = sum n (sent H z); waiting = set_of n (still_waits H z) }
 
 -- the answer comes with the lent list: the counts of the largest allowed set, or as it was
-unfoldable pub resolve_act : List ℕ → Act (Resolved × List ℕ)
+unfoldable pub resolve_act : List ℕ → Act (Result Resolution Refusal × List ℕ)
 resolve_act k = record {
-  refuse = λ r. (Refused r, k);
+  refuse = λ r. (Err r, k);
   tests = λ T. test (not (eqb (length k) (members_in T))) BadCounts ∷ [];
-  does = λ T. outcome (Done (told (members_in T) (house_in T) (listed (largest_in T))), largest_in T) (booked_in T (listed (largest_in T)));
+  does = λ T. outcome (Ok (told (members_in T) (house_in T) (listed (largest_in T))), largest_in T) (booked_in T (listed (largest_in T)));
 }
 
 -- where a resolution was made, the counts told are the largest allowed set of the house that the tables held before it
-abbrev pub ToldLargest : Resolved → Tables → List ℕ → Type 0
-ToldLargest (Done r) T counts = LargestSet (members_in T) (house_in T) (listed counts)
-ToldLargest (Refused r) T counts = Unit {0}
+abbrev pub ToldLargest : Result Resolution Refusal → Tables → List ℕ → Type 0
+ToldLargest (Ok r) T counts = LargestSet (members_in T) (house_in T) (listed counts)
+ToldLargest (Err r) T counts = Unit {0}
 
 -- ---- its steps
 

@@ -1,7 +1,7 @@
 // A resolution: the largest allowed set is found, booked and told.
 #![tactic(auto)]
 
-ghost use Rattle.std.specs.Prelude.{◌≡◌, ◌≤◌, length, take};
+ghost use Rattle.std.specs.Prelude.{◌≡◌, ◌≤◌, length};
 ghost use Rattle.rule.specs.Verdict.{verdict_of};
 ghost use Rattle.sets.specs.Sets.{set_of};
 ghost use Rattle.tables.specs.Sizes.{members, table};
@@ -12,9 +12,8 @@ ghost use Rattle.answers.specs.Outcome.{outcome, held};
 ghost use Rattle.answers.specs.Verdicts.{named};
 ghost use Rattle.resolving.specs.Resolve.{resolve_act, ToldLargest, has_waiting, Balances, LargestIs};
 
-use answers::{Refusal, Resolution, Resolved, Verdict};
+use answers::{Refusal, Resolution, Verdict};
 use tables::House;
-use tables::steps::wide;
 
 // Settles the largest allowed set, and writes its counts into the lent list.
 pub fn resolve(
@@ -22,23 +21,23 @@ pub fn resolve(
     counters: &mut [u32],
     pays: &mut [u64],
     counts: &mut [u16],
-) -> Resolved
+) -> Result<Resolution, Refusal>
     requires { Holds (tables accounts.old counters.old pays.old) }
     ensures pays_after { outcome (result, counts.new) (tables accounts.new counters.new pays.new) ≡ held (resolve_act counts.old) (tables accounts.old counters.old pays.old) }
     ensures told_largest { ToldLargest result (tables accounts.old counters.old pays.old) counts.new }
 {
-    if counts.len() != wide(counters[0]) {
-        return Resolved::Refused(Refusal::Counts);
+    if counts.len() != counters[House::MEMBERS_AT] as usize {
+        return Err(Refusal::Counts);
     }
-    let waited = counters[1];
+    let waited = counters[House::WAITING_AT];
     let mut positions = booking::balances(accounts);
     let all = largest(accounts, counters, pays, &mut positions);
     let settled = booking::tally(&all);
     let sum = booking::book(accounts, counters, pays, &positions, &all);
-    tell(counts, &all);
-    Resolved::Done(Resolution {
+    counts.copy_from_slice(&all[..counts.len()]);
+    Ok(Resolution {
         verdict: verdict_of(waited, settled),
-        payments: settled as u64,
+        payments: u64::from(settled),
         sum,
         waiting: still_waiting(counters),
     })
@@ -50,47 +49,31 @@ fn largest(
     accounts: &[i64],
     counters: &[u32],
     pays: &[u64],
-    positions: &mut [i64],
+    positions: &mut [i64; House::MEMBERS],
 ) -> [u16; House::MEMBERS]
     requires holds { Holds (tables accounts.now counters.now pays.now) }
     requires balances { Balances accounts.now positions.old }
     ensures largest_is { LargestIs (tables accounts.now counters.now pays.now) result }
     ensures weighed { Weighed (tables accounts.now counters.now pays.now) result positions.new }
 {
-    let used = wide(counters[1]);
-    let n = wide(counters[0]);
+    let used = counters[House::WAITING_AT] as usize;
+    let n = counters[House::MEMBERS_AT] as usize;
     let lines = booking::balances(&accounts[House::LINES_AT..]);
     let mut tops = [0usize; House::MEMBERS];
     finder::resolve(pays, used, positions, &lines, &mut tops, n);
     finder::count_below(pays, used, &tops)
 }
 
-// Writes the counts of the members into the lent list.
-fn tell(counts: &mut [u16], all: &[u16])
-    requires { length counts.old ≤ length all.now }
-    ensures { counts.new ≡ take (length counts.old) all.now }
-{
-    let mut i = 0;
-    while i < counts.len() {
-        counts[i] = all[i];
-        i += 1;
-    }
-}
-
 // The verdict, by how many payments waited and how many of them were settled.
 fn verdict_of(waited: u32, settled: u32) -> Verdict
     ensures { result ≡ named (verdict_of waited settled) }
 {
-    if waited == 0 {
-        return Verdict::Empty;
+    match (waited, settled) {
+        (0, _) => Verdict::Empty,
+        (_, 0) => Verdict::Deadlocked,
+        _ if settled == waited => Verdict::Full,
+        _ => Verdict::Partial,
     }
-    if settled == 0 {
-        return Verdict::Deadlocked;
-    }
-    if settled == waited {
-        return Verdict::Full;
-    }
-    Verdict::Partial
 }
 
 // The set of members with payments waiting.
@@ -99,10 +82,8 @@ fn still_waiting(counters: &[u32]) -> u64
     ensures { result ≡ set_of (count_of counters.now) (has_waiting counters.now) }
 {
     let mut set = 0u64;
-    let mut i = wide(counters[0]);
-    while i > 0 {
-        i -= 1;
-        set = set * 2;
+    for i in (0..counters[House::MEMBERS_AT] as usize).rev() {
+        set *= 2;
         if counters[House::SETTLED_AT + i] < counters[House::LASTS_AT + i] {
             set += 1;
         }

@@ -9,15 +9,16 @@ ghost use Rattle.sets.specs.Sets.{lowest_in};
 pub fn size(set: u64) -> u32
     ensures { result ≡ ones set }
 {
-    u64::count_ones(set)
+    set.count_ones()
 }
 
 // The lowest member of the set, and 0 for the empty one.
+// Kept: 0 is what the sheet and a host are told then (`sets::specs::Sets::lowest_in`).
 pub fn lowest(set: u64) -> u32
     ensures { result ≡ lowest_in set }
 {
     if set == 0 {
         return 0;
     }
-    u64::trailing_zeros(set) + 1
+    set.trailing_zeros() + 1
 }

@@ -17,7 +17,6 @@ use answers::judge::is_member;
 use answers::{Grouped, Refusal, Released};
 use tables::House;
 use tables::look::waiting_of;
-use tables::steps::{at_most, plus, signed, wide};
 
 // Settles a member's head payment if balance + line reach its amount.
 pub fn release(
@@ -25,25 +24,29 @@ pub fn release(
     counters: &mut [u32],
     pays: &mut [u64],
     member: u64,
-) -> Released
+) -> Result<Released, Refusal>
     requires { Holds (tables accounts.old counters.old pays.old) }
     ensures { outcome result (tables accounts.new counters.new pays.new) ≡ held (release_act member) (tables accounts.old counters.old pays.old) }
 {
     if !is_member(counters, member) {
-        return Released::Refused(Refusal::Member);
+        return Err(Refusal::Member);
     }
     let seat = (member - 1) as usize;
     if waiting_of(counters, seat) == 0 {
-        return Released::Refused(Refusal::Nothing);
+        return Err(Refusal::Nothing);
     }
     let number = head_number(counters, seat);
-    let at = booking::head_of(pays, wide(counters[1]), seat);
+    let at = booking::head_of(pays, counters[House::WAITING_AT] as usize, seat);
     let amount = rule::amount_of(pays[at]);
     if !reaches(accounts, seat, amount) {
-        return Released::Refused(Refusal::Cover);
+        return Err(Refusal::Cover);
     }
     booking::book_head(accounts, counters, pays, seat, at);
-    Released::Done(member, number, amount)
+    Ok(Released {
+        payer: member,
+        number,
+        amount,
+    })
 }
 
 // The number of a member's head payment.
@@ -51,7 +54,7 @@ fn head_number(counters: &[u32], seat: usize) -> u64
     requires { (table ≤ length counters.now) × (seat < members) }
     ensures { result ≡ settled_of counters.now seat + 1 }
 {
-    wide(counters[House::SETTLED_AT + seat]) as u64 + 1
+    u64::from(counters[House::SETTLED_AT + seat]) + 1
 }
 
 // Whether a member's balance and line reach an amount.
@@ -59,10 +62,7 @@ fn reaches(accounts: &[i64], seat: usize, amount: u64) -> bool
     requires { (table ≤ length accounts.now) × (seat < members) × SFits w64 (balance_of accounts.now seat +ℤ line_of accounts.now seat) × (amount ≤ most_amount) }
     ensures { result ≡ le_z (pos amount) (balance_of accounts.now seat +ℤ line_of accounts.now seat) }
 {
-    at_most(
-        signed(amount),
-        plus(accounts[seat], accounts[House::LINES_AT + seat]),
-    )
+    amount as i64 <= accounts[seat] + accounts[House::LINES_AT + seat]
 }
 
 // Settles that many payments from each head at once, if the set is allowed.
@@ -71,12 +71,12 @@ pub fn group(
     counters: &mut [u32],
     pays: &mut [u64],
     counts: &[u16],
-) -> Grouped
+) -> Result<Grouped, Refusal>
     requires { Holds (tables accounts.old counters.old pays.old) }
     ensures { outcome result (tables accounts.new counters.new pays.new) ≡ held (group_act counts.now) (tables accounts.old counters.old pays.old) }
 {
     if !are_counts(counters, counts) {
-        return Grouped::Refused(Refusal::Counts);
+        return Err(Refusal::Counts);
     }
     let all = widened(counts);
     try_book(accounts, counters, pays, &all)
@@ -88,43 +88,41 @@ fn are_counts(counters: &[u32], counts: &[u16]) -> bool
     requires by_index { (i : ℕ) → i < members → settled_of counters.now i ≤ last_of counters.now i }
     ensures { result ≡ counts_fit counters.now counts.now }
 {
-    let n = wide(counters[0]);
-    if counts.len() != n {
-        return false;
-    }
-    let mut i = 0;
-    while i < n {
-        if counts[i] as u32 > waiting_of(counters, i) {
-            return false;
-        }
-        i += 1;
-    }
-    true
+    counts.len() == counters[House::MEMBERS_AT] as usize
+        && counts
+            .iter()
+            .enumerate()
+            .all(|(i, &k)| u32::from(k) <= waiting_of(counters, i))
 }
 
 // A count for each member of the largest house, 0 past the list's end.
+// Kept: an array of the most members, since the house has no heap; it is two lines of std, as `booking::balances`.
 fn widened(counts: &[u16]) -> [u16; House::MEMBERS]
     requires { length counts.now ≤ members }
-    ensures { (length result ≡ members) × (listed result ≡ listed counts.now) }
+    ensures { listed result ≡ listed counts.now }
 {
     let mut all = [0u16; House::MEMBERS];
-    let mut i = 0;
-    while i < counts.len() {
-        all[i] = counts[i];
-        i += 1;
-    }
+    all[..counts.len()].copy_from_slice(counts);
     all
 }
 
 // Books the counts if each member is covered then.
-fn try_book(accounts: &mut [i64], counters: &mut [u32], pays: &mut [u64], counts: &[u16]) -> Grouped
+fn try_book(
+    accounts: &mut [i64],
+    counters: &mut [u32],
+    pays: &mut [u64],
+    counts: &[u16; House::MEMBERS],
+) -> Result<Grouped, Refusal>
     requires { Counted (tables accounts.old counters.old pays.old) counts.now }
     ensures { outcome result (tables accounts.new counters.new pays.new) ≡ held (book_act (listed counts.now)) (tables accounts.old counters.old pays.old) }
 {
     let positions = booking::weigh(accounts, counters, pays, counts);
     if !booking::covered(&positions, accounts, counters) {
-        return Grouped::Refused(Refusal::Cover);
+        return Err(Refusal::Cover);
     }
     let sum = booking::book(accounts, counters, pays, &positions, counts);
-    Grouped::Done(booking::tally(counts) as u64, sum)
+    Ok(Grouped {
+        payments: u64::from(booking::tally(counts)),
+        sum,
+    })
 }

@@ -1,5 +1,4 @@
 pub mod Texts
-pub mod Start
 pub mod Fields
 pub mod Ranges
 pub mod Room

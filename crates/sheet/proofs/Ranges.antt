@@ -1,10 +1,12 @@
 -- From the ranges of what a line says: its numbers keep their value with a sign, have at most 18 digits, and make a line of at most 80
 -- bytes.
 use native.Mathlib.Omega.{arith}
-use mathlib.Core.Path.{◌≡◌, subst}
+use mathlib.Core.Path.{◌≡◌, sym, ap, subst}
 use Prim.Native.Nat.{ℕ, suc, ◌≤◌, ◌<◌, ◌^◌}
 use lib.ListN.{length, length-append}
 use lib.IntN.{ℤ, nat_abs}
+use mathlib.Core.List.{List}
+use Rattle.std.specs.Prelude.{Option}
 use mir.Syntax.{w64}
 use mir.Val.{to_z, of_z}
 use mir.Facts.{to_z-of_z}
@@ -13,11 +15,8 @@ use Rattle.numbers.proofs.Signs.{held_small}
 use Rattle.numbers.proofs.Writing.{length-digits_of, length-signed_text}
 use Rattle.sheet.specs.declared.Says.{Says}
 use Rattle.sheet.specs.declared.Says.TheVariants as S
-use Rattle.sheet.specs.Lines.{parts_of, tabbed, text_of}
+use Rattle.sheet.specs.Lines.{Parts, parts_of, shown_if, tabbed, line_text, text_of}
 use Rattle.sheet.specs.Room.{least_room, Ranges, AllShort}
-
-pub in-range : (s t : Says) → s ≡ t → Ranges s → Ranges t
-in-range s t e h = subst Ranges e h
 
 -- a number that is handed on as 64 bits with a sign
 pub handed-on : (y z : ℤ) → y ≡ z → nat_abs z < 10 ^ most_digits → to_z w64 (of_z w64 y) ≡ z
@@ -63,3 +62,10 @@ text-le (S.Refused line code) h = simp length-append (omega (arith, number-le li
 text-le (S.Balance member balance waiting) h = simp length-append
     (omega (arith, number-le member 1 h.0, signed_le balance h.1, number-le waiting 3 h.2))
 text-le (S.Money sum) h = simp length-append (omega (arith, signed_le sum h))
+
+-- the parts of a line have room where it has, and its numbers are short
+pub fits : (s : Says) (out : List ℕ) (line : Option ℕ) (word : List ℕ) (zs : List ℤ) → (least_room ≤ length out) × Ranges s → shown_if line word zs ≡ parts_of s
+    → (length (line_text (shown_if line word zs)) ≤ length out) × AllShort zs
+fits s out line word zs h e =
+    let m : length (line_text (shown_if line word zs)) ≡ length (text_of s) = ap (λ (p : Parts). length (line_text p)) e in
+    (omega (arith, text-le s h.1), subst (λ (p : Parts). AllShort p.numbers) (sym e) (all_short s h.1))

@@ -1,8 +1,7 @@
 -- The lines of the sheet, byte for byte (document 01, "The day file and the sheet"): fields parted by one tab (byte 9), each line ended by
 -- byte 10.
-use Rattle.std.specs.Prelude.{ℕ, Bool, cond, List, [], ◌∷◌, ◌++◌, take, ℤ, pos}
+use Rattle.std.specs.Prelude.{ℕ, List, [], ◌∷◌, ◌++◌, ℤ, pos, Option, Some, None}
 use Rattle.numbers.specs.Numbers.{digits_of, signed_text}
-use Rattle.sheet.specs.declared.Row.{Row}
 use Rattle.sheet.specs.declared.Says.{Says}
 use Rattle.sheet.specs.declared.Says.TheVariants as S
 
@@ -86,10 +85,11 @@ line_text p = p.start ++ p.word ++ tabbed p.numbers ++ (10 ∷ [])
 abbrev pub text_of : Says → List ℕ
 text_of s = line_text (parts_of s)
 
--- a line that begins with its number if that is shown
-abbrev pub shown_if : Bool → ℕ → List ℕ → List ℤ → Parts
-shown_if shown line word zs = record { start = cond shown (start_text line) []; word = word; numbers = zs }
+-- the line number with its tab, if there is one
+abbrev pub start_of : Option ℕ → List ℕ
+start_of (Some line) = start_text line
+start_of None = []
 
--- the parts that a row holds: its first letters and its first numbers
-abbrev pub parts_in : Row → Parts
-parts_in r = shown_if r.is_numbered r.line (take r.letters r.word) (take r.many r.numbers)
+-- a line that begins with its number, if it has one
+abbrev pub shown_if : Option ℕ → List ℕ → List ℤ → Parts
+shown_if line word zs = record { start = start_of line; word = word; numbers = zs }

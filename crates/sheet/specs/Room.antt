@@ -1,11 +1,10 @@
 -- Writing a line of the sheet into the unused rest of the lent output (document 01, code 13), and the ranges that keep a line short.
-use Rattle.std.specs.Prelude.{ℕ, ◌+◌, ◌^◌, ◌<◌, Bool, cond, List, [], ◌∷◌, leb, ltb, length, ℤ, nat_abs}
+use Rattle.std.specs.Prelude.{ℕ, ◌+◌, ◌^◌, ◌<◌, Bool, cond, List, [], ◌∷◌, leb, ltb, length, ℤ, nat_abs, Result, Ok, Err}
 use Rattle.std.proofs.lemmas.List.Edits.{sets}
 use Rattle.answers.specs.Codes.{code_of}
+use Rattle.answers.specs.declared.Refusal.{Refusal}
 use Rattle.answers.specs.declared.Refusal.TheVariants as R
 use Rattle.numbers.specs.Numbers.{most_digits}
-use Rattle.sheet.specs.declared.Put.{Put}
-use Rattle.sheet.specs.declared.Put.TheVariants.{Wrote, Refused}
 use Rattle.sheet.specs.declared.Says.{Says}
 use Rattle.sheet.specs.declared.Says.TheVariants as S
 
@@ -18,17 +17,17 @@ abbrev pub has_room : ℕ → ℕ → Bool
 has_room n used = leb (used + least_room) n
 
 -- less than 80 bytes are left: code 13
-abbrev pub no_room : Put
-no_room = Refused R.Room
+abbrev pub no_room : Result ℕ Refusal
+no_room = Err R.Room
 
 -- the answer, where so many bytes are left: how many were written
-abbrev pub put_of : ℕ → List ℕ → Put
-put_of room text = cond (ltb room least_room) no_room (Wrote (length text))
+abbrev pub put_of : ℕ → List ℕ → Result ℕ Refusal
+put_of room text = cond (ltb room least_room) no_room (Ok (length text))
 
 -- the paper's number of an answer
-abbrev pub put_code : Put → ℕ
-put_code (Wrote n) = 0
-put_code (Refused r) = code_of r
+abbrev pub put_code : Result ℕ Refusal → ℕ
+put_code (Ok n) = 0
+put_code (Err r) = code_of r
 
 -- the output after it, where the text goes to place at
 abbrev pub after_put : ℕ → List ℕ → ℕ → List ℕ → List ℕ

@@ -5,6 +5,9 @@ ghost use Rattle.std.specs.Prelude.{◌≡◌, []};
 ghost use Rattle.lent.specs.Reply.{lends};
 ghost use Rattle.lent.specs.Asks.{opens, deposits, submits, releases, groups, resolves, replied};
 
+use answers::Refusal;
+use lent::LentList;
+
 // Opens a house of `count` members, whatever the tables held. Told: the sum of balances.
 #[unsafe(no_mangle)]
 pub extern "C" fn snarevapor_open(
@@ -17,13 +20,11 @@ pub extern "C" fn snarevapor_open(
     ensures { (result, lends tables.new [] answer.new) ≡ replied (opens count balances.now lines.now) (lends tables.old [] answer.old) }
 {
     if !lent::is_roomy(tables.len(), answer.len(), 8) {
-        return 1;
+        return u32::from(Refusal::State);
     }
-    let n = lent::entries_of(balances.len(), 8);
-    let m = lent::entries_of(lines.len(), 8);
-    let b = lent::signed_of(balances, n);
-    let l = lent::signed_of(lines, m);
-    lent_entry::open(tables, count, &b[..n], &l[..m], answer)
+    let b = LentList::of(balances);
+    let l = LentList::of(lines);
+    lent::code(lent_entry::open(tables, count, b.as_slice(), l.as_slice(), answer))
 }
 
 // A deposit to a member. Told: the new balance.
@@ -37,9 +38,9 @@ pub extern "C" fn snarevapor_deposit(
     ensures { (result, lends tables.new [] answer.new) ≡ replied (deposits member amount) (lends tables.old [] answer.old) }
 {
     if !lent::is_roomy(tables.len(), answer.len(), 8) {
-        return 1;
+        return u32::from(Refusal::State);
     }
-    lent_entry::deposit(tables, member, amount, answer)
+    lent::code(lent_entry::deposit(tables, member, amount, answer))
 }
 
 // A payment at the tail of its payer's queue. It settles nothing.
@@ -54,9 +55,9 @@ pub extern "C" fn snarevapor_submit(
     ensures { (result, lends tables.new [] []) ≡ replied (submits payer number payee amount) (lends tables.old [] []) }
 {
     if !lent::is_roomy(tables.len(), 0, 0) {
-        return 1;
+        return u32::from(Refusal::State);
     }
-    lent_entry::submit(tables, payer, number, payee, amount)
+    lent::code(lent_entry::submit(tables, payer, number, payee, amount))
 }
 
 // Settles a member's head payment if it is covered. Told: the payment's number, and its amount.
@@ -65,9 +66,9 @@ pub extern "C" fn snarevapor_release(tables: &mut [u8], member: u64, answer: &mu
     ensures { (result, lends tables.new [] answer.new) ≡ replied (releases member) (lends tables.old [] answer.old) }
 {
     if !lent::is_roomy(tables.len(), answer.len(), 16) {
-        return 1;
+        return u32::from(Refusal::State);
     }
-    lent_settling::release(tables, member, answer)
+    lent::code(lent_settling::release(tables, member, answer))
 }
 
 // Settles that many payments from each head at once, if the set is allowed. Told: how many payments, and their sum.
@@ -76,11 +77,10 @@ pub extern "C" fn snarevapor_group(tables: &mut [u8], counts: &[u8], answer: &mu
     ensures { (result, lends tables.new [] answer.new) ≡ replied (groups counts.now) (lends tables.old [] answer.old) }
 {
     if !lent::is_roomy(tables.len(), answer.len(), 16) {
-        return 1;
+        return u32::from(Refusal::State);
     }
-    let n = lent::entries_of(counts.len(), 2);
-    let k = lent::counts_of(counts, n);
-    lent_settling::group(tables, &k[..n], answer)
+    let k = LentList::of(counts);
+    lent::code(lent_settling::group(tables, k.as_slice(), answer))
 }
 
 // Settles the largest allowed set, and writes its counts. Told: the verdict, how many payments, their sum, the set of members still
@@ -90,9 +90,8 @@ pub extern "C" fn snarevapor_resolve(tables: &mut [u8], counts: &mut [u8], answe
     ensures { (result, lends tables.new counts.new answer.new) ≡ replied resolves (lends tables.old counts.old answer.old) }
 {
     if !lent::is_roomy(tables.len(), answer.len(), 48) {
-        return 1;
+        return u32::from(Refusal::State);
     }
-    let n = lent::entries_of(counts.len(), 2);
-    let mut k = lent::counts_of(counts, n);
-    lent_settling::resolve(tables, counts, &mut k[..n], answer)
+    let mut k = LentList::of(counts);
+    lent::code(lent_settling::resolve(tables, counts, k.as_mut_slice(), answer))
 }

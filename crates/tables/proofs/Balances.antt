@@ -4,14 +4,17 @@ use mathlib.Core.Path.{◌≡◌}
 use mathlib.Core.Bool.{Bool, true, false, cond, ◌&&◌}
 use mathlib.Core.List.{List}
 use Prim.Native.Nat.{ℕ, zero, suc, ◌+◌, ◌*◌, ◌≤◌, ◌<◌}
+use native.Mathlib.Numerals.{add-one}
 use native.Mathlib.Omega.{arith}
 use native.Mathlib.Decide.{ℕ_discrete, dec_lt}
 use lib.Dec.{ltb}
 use lib.IntN.{ℤ, pos, negsuc, ◌+ℤ◌}
 use lib.Signed.{le_z}
-use lib.ListN.{length}
+use lib.ListN.{length, get_or, take}
+use lib.Seq.{get_or-take}
 use mir.Syntax.{w64}
-use mir.Val.{SFits}
+use mir.Val.{SFits, to_z, of_z}
+use mir.Facts.{to_z-of_z}
 use Rattle.rule.specs.Ints.{up, down}
 use Rattle.rule.specs.House.{money}
 use Rattle.rule.proofs.Ints.{ints, plus, le_z-true, ≤ℤ-is}
@@ -61,6 +64,9 @@ seats-bounded n a h e = record {
   near = λ i q. near-account (ltb i n) (balance_of a i) (line_of a i) (every-at (account_at n a) members i e q);
 }
 
+-- for `accounts_ok`, before it sums them
+pub ruleset bounded = (seats-bounded)
+
 -- ---- and so are their sums
 
 module _ (n : ℕ) (b : ℕ → ℤ) (near : (i : ℕ) → i < n → Near highest (b i)) where
@@ -74,6 +80,19 @@ module _ (n : ℕ) (b : ℕ → ℤ) (near : (i : ℕ) → i < n → Near highes
 -- the sum of the first of bounded balances fits an i64
 pub sum_fits : {n : ℕ} {a : List ℤ} → Bounded n a → (i : ℕ) → i ≤ n → SFits w64 (money i (balance_of a))
 sum_fits {n} {a} b i h = let s = near-sum n (balance_of a) b.near i h in omega (ints, b.few)
+
+-- and so does one of them
+balance_fits : {n : ℕ} {a : List ℤ} → Bounded n a → (i : ℕ) → i < n → SFits w64 (balance_of a i)
+balance_fits {n} {a} b i h = let s = b.near i h in omega (ints, s.above, s.below)
+
+-- the loop of `total` adds the next of the first n balances: that fits, and gives the next sum
+pub sum-turn : {n : ℕ} {a : List ℤ} → Bounded n a → (i s : ℕ) → i < n → to_z w64 s ≡ money i (balance_of a)
+    → SFits w64 (to_z w64 s +ℤ to_z w64 (of_z w64 (get_or (take n a) i (pos 0))))
+    × (to_z w64 (of_z w64 (to_z w64 s +ℤ to_z w64 (of_z w64 (get_or (take n a) i (pos 0))))) ≡ money (i + 1) (balance_of a))
+sum-turn {n} {a} b i s h e =
+    let r : to_z w64 (of_z w64 (get_or (take n a) i (pos 0))) ≡ balance_of a i = rw (get_or-take n a i (pos 0) h) (to_z-of_z (balance_fits b i h)) in
+    let f : SFits w64 (money i (balance_of a) +ℤ balance_of a i) = rw add-one at (sum_fits b (i + 1) (omega arith)) in
+    (rw (e, r) f, rw (e, r, add-one) (to_z-of_z f))
 
 -- ---- one balance, by the sum of all
 
@@ -119,7 +138,3 @@ module _ {n : ℕ} {a : List ℤ} (h : Accounts n a) where
   -- so that no sum of them wraps,
   pub accounts-bounded : Bounded members a
   accounts-bounded = record { few = omega arith; long = omega (arith, h.long); near = accounts-near }
-
-  -- and the sum of all fits an i64
-  pub money-fits : SFits w64 (money_of a)
-  money-fits = sum_fits accounts-bounded members (omega arith)

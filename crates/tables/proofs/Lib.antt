@@ -1,7 +1,6 @@
 pub mod Same
 pub mod Tests
 pub mod Every
-pub mod Filling
 pub mod Balances
 pub mod Counting
 pub mod States

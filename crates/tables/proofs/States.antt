@@ -65,6 +65,9 @@ counters-are c l e =
       later = λ j h. eqb-true (get_or c (spare_counters_at + j) 0) 0 (every-at (zero_at c spare_counters_at) spare_counters j e4.1 h);
     }
 
+-- for `is_state`, before it looks at queues
+pub ruleset counters_are = (counters-are, le-leb)
+
 accounts-are : (n : ℕ) (a : List ℤ) → n ≤ members → leb table (length a) ≡ true → accounts_ok n a ≡ true → Accounts n a
 unfolding accounts_ok
 accounts-are n a few l e =

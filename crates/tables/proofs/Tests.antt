@@ -4,6 +4,8 @@ use mathlib.Core.Bool.{Bool, true, false, ◌&&◌, false≢true}
 use lib.IntN.{ℤ, pos}
 use lib.Signed.{le_z, ◌≤ℤ◌}
 use native.Mathlib.Omega.{arith}
+use Rattle.std.specs.Ordering.{int_eq}
+use Rattle.std.proofs.lemmas.Bool.Decides.{same_from_decides, Decides-int_eq}
 use Rattle.rule.proofs.Ints.{le_of, ≤ℤ-is, eq_of, le_z-true, true-le_z}
 use Rattle.tables.specs.State.{is_zero}
 
@@ -47,3 +49,7 @@ zero-true z e =
 -- and the other way
 pub true-zero : {z : ℤ} → z ≡ pos 0 → is_zero z ≡ true
 true-zero e = rw e
+
+-- and so does `==`
+pub zero-same : (z : ℤ) → int_eq z (pos 0) ≡ is_zero z
+zero-same z = same_from_decides (int_eq z (pos 0)) (is_zero z) (Decides-int_eq z (pos 0)) (zero-true z, true-zero)

@@ -1,4 +1,6 @@
 // The tables that a host lends: the house's fixed numbers, what stands where, and whether lent tables hold a state.
+// Kept: the tables are three lent slices (document 01), so how long they are (`table ≤ length`) and what they hold
+// (`Holds`, `Counted`, `Fit`) stands in each contract.
 #![tactic(auto)]
 
 ghost use Rattle.std.specs.Prelude.{◌≡◌, ◌≤◌};
@@ -6,13 +8,10 @@ ghost use Rattle.tables.specs.Sizes.{members, places, table, bytes, most_amount,
 ghost use Rattle.tables.specs.Layout.{lines_at, spare_accounts_at, spare_accounts, members_at, waiting_at, spare_singles_at, spare_singles, lasts_at, settled_at, spare_counters_at, spare_counters};
 
 pub mod look;
-pub mod steps;
 
 // The house, to which its fixed numbers belong.
-#[derive(Drop)]
-pub struct House {
-    pub members: u64,
-}
+#[derive(Clone, Copy)]
+pub struct House;
 
 impl House {
     // At most so many members.

@@ -1,5 +1,4 @@
-pub mod Signs
 pub mod Number
-pub mod NumberTurns
+pub mod StdBytes
 pub mod Row
 pub mod RowTurns

@@ -3,7 +3,7 @@ use mathlib.Core.Path.{◌≡◌, refl, ◌∙◌}
 use mathlib.Core.List.{List}
 use mathlib.Core.Logic.{◌⊎◌, inl, inr}
 use Prim.Native.Nat.{ℕ, zero, suc, ◌+◌, ◌*◌, ◌/◌, ◌%◌, ◌^◌, ◌≤◌, ◌<◌}
-use native.Mathlib.Nat.{pow-suc}
+use native.Mathlib.Nat.{pow-suc, one-le-pow}
 use native.Mathlib.Omega.{arith}
 use lib.ListN.{length, get_or, set, length-set}
 use lib.Seq.{get_or-set_same, get_or-set_other}
@@ -45,7 +45,11 @@ read-put (suc w) s at x h b =
     let low = put-outside w t (at + 1) (x / 256) at (inl (omega arith)) ∙ get_or-set_same s at (x % 256) 0 (omega arith) in
     omega (arith, high, low)
 
--- w bytes are a number below 256 ^ w.
+-- w bytes hold 0,
+pub zero-below : (w : ℕ) → 0 < 256 ^ w
+zero-below w = one-le-pow w 256 (omega arith)
+
+-- and are a number below 256 ^ w.
 pub below : (w : ℕ) (s : List ℕ) (at : ℕ) → ((k : ℕ) → get_or s k 0 < 256) → le_at w s at < 256 ^ w
 unfolding le_at
 below zero s at h = omega arith

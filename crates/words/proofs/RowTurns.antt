@@ -1,16 +1,7 @@
--- A row is read and written from its first number on: one number of each, and the two ends, at every width and sign.
-use mathlib.Core.Path.{◌≡◌, refl, sym, ap, ◌∙◌}
-use mathlib.Core.List.{List, ◌++◌, append_assoc, append-nil}
-use Prim.Native.Nat.{ℕ, suc, ◌+◌, ◌-◌, ◌*◌, ◌≤◌, ◌<◌}
-use native.Mathlib.Numerals.{add-one}
-use native.Mathlib.Nat.{suc-mul, zero-mul}
-use native.Mathlib.Omega.{arith}
-use lib.IntN.{ℤ, pos}
-use lib.ListN.{length, get_or, take, drop, set, length-set, drop_of_length-le}
-use lib.Seq.{take-suc-set, drop-cons, take_all}
-use mir.Syntax.{w64}
-use mir.Val.{SFits, to_z, of_z}
-use mir.Facts.{to_z-of_z}
+-- A row is read and written from its first number on: one number of each, and the end, at every width and sign.
+use Rattle.std.proofs.Common.{◌≡◌, ℕ, suc, ◌+◌, ◌-◌, ◌*◌, ◌≤◌, ◌<◌, List, ◌++◌, length, get_or, set, take, drop, sym, ap, ◌∙◌, arith, add-one, append_assoc, append-nil, drop-cons, length-set, take-suc-set, take_all}
+use Rattle.std.proofs.Math.ListN.{drop_of_length-le}
+use Rattle.std.proofs.Math.Nat.{suc-mul}
 use Rattle.words.proofs.Number.{length-put}
 use Rattle.words.specs.Le.{le_at, put_at}
 use Rattle.words.specs.Row.{row_at, put_row}
@@ -31,13 +22,6 @@ pub record Writing {A : Type 0} (g : A → ℕ) (w : ℕ) (xs : List A) (at : �
   pub row : put_row g w s (at + i * w) (drop i xs) ≡ put_row g w s₀ at xs
 
 module _ {A : Type 0} {f : ℕ → A} {w : ℕ} {s : List ℕ} {at : ℕ} {out₀ : List A} where
-  -- With no number filled in, all of the row is to come.
-  pub fill_start : Filling f w s at out₀ out₀ 0
-  fill_start =
-      let e : length out₀ - 0 ≡ length out₀ = omega arith in
-      let z : at + 0 * w ≡ at = omega (arith, zero-mul w) in
-      record { within = omega arith; same = refl; row = rw (e, z) }
-
   -- With number i filled in, the row from i + 1 on is to come.
   pub fill-turn : {out : List A} {i : ℕ} {x : A} → Filling f w s at out₀ out i → i < length out₀ → x ≡ f (le_at w s (at + i * w)) → Filling f w s at out₀ (set out i x) (i + 1)
   unfolding row_at
@@ -55,22 +39,14 @@ module _ {A : Type 0} {f : ℕ → A} {w : ℕ} {s : List ℕ} {at : ℕ} {out�
       sym (rw (e, take_all i out l, append-nil)) ∙ v.row
 
 module _ {A : Type 0} {g : A → ℕ} {w : ℕ} {xs : List A} {at : ℕ} {s₀ : List ℕ} where
-  -- With no number written, all of xs is left.
-  pub write-start : Writing g w xs at s₀ s₀ 0
-  write-start = let z : at + 0 * w ≡ at = omega (arith, zero-mul w) in record { within = omega arith; same = refl; row = rw z }
-
   -- With number i written, xs from i + 1 on is left.
-  pub write-turn : {s t : List ℕ} {i : ℕ} (d : A) → Writing g w xs at s₀ s i → i < length xs → t ≡ put_at w s (at + i * w) (g (get_or xs i d)) → Writing g w xs at s₀ t (i + 1)
+  pub write-turn : {s t : List ℕ} {i : ℕ} {x : A} → Writing g w xs at s₀ s i → i < length xs → x ≡ get_or xs i x → t ≡ put_at w s (at + i * w) (g x) → Writing g w xs at s₀ t (i + 1)
   unfolding put_row
-  write-turn {s} {t} {i} d v h e =
-      record { within = omega arith; same = ap length e ∙ length-put w s _ _ ∙ v.same; row = rw (e, next, add-one) (rw (drop-cons xs i d h) at v.row) }
+  write-turn {s} {t} {i} {x} v h is e =
+      let f : t ≡ put_at w s (at + i * w) (g (get_or xs i x)) = e ∙ ap (λ (y : A). put_at w s (at + i * w) (g y)) is in
+      record { within = omega arith; same = ap length f ∙ length-put w s _ _ ∙ v.same; row = rw (f, next, add-one) (rw (drop-cons xs i x h) at v.row) }
 
   -- With all written, nothing is left.
   pub write-end : {s : List ℕ} {i : ℕ} → Writing g w xs at s₀ s i → length xs ≤ i → s ≡ put_row g w s₀ at xs
   unfolding put_row
   write-end v h = sym (rw (drop_of_length-le xs h)) ∙ v.row
-
--- The turn of a row of signed numbers, each of which is held as its bits.
-pub write-turn-signed : {xs : List ℤ} {at : ℕ} {s₀ s t : List ℕ} {i : ℕ} → Writing (of_z w64) 8 xs at s₀ s i → i < length xs → SFits w64 (get_or xs i (pos 0))
-    → t ≡ put_at 8 s (at + i * 8) (of_z w64 (to_z w64 (of_z w64 (get_or xs i (pos 0))))) → Writing (of_z w64) 8 xs at s₀ t (i + 1)
-write-turn-signed {xs} {at} {s₀} {s} {t} {i} v h f e = write-turn (pos 0) v h (e ∙ ap (put_at 8 s (at + i * 8)) (ap (of_z w64) (to_z-of_z {w = w64} f)))

@@ -13,8 +13,8 @@ use Rattle.booking.proofs.book_head.Goals as goal
 pub slice_bounds-enter-end-2 : goal.slice_bounds-enter-end-2
 slice_bounds-enter-end-2 c = sym (length-take-le members c.args.accounts.now (omega (arith, c.requires.0.accounts.long)))
 
-pub enter-requires : goal.enter-requires
-enter-requires c = record { steady = head-steady c.requires.0; w_bound = omega (arith, (c.requires.0.places.words c.args.at c.requires.2.within).small) }
+pub enter-requires-clause-steady : goal.enter-requires-clause-steady
+enter-requires-clause-steady c = head-steady c.requires.0
 
 pub count_head-requires : goal.count_head-requires
 count_head-requires c = let w = head-waits c.requires.0 c.requires.1 c.requires.2 in
@@ -22,8 +22,8 @@ count_head-requires c = let w = head-waits c.requires.0 c.requires.1 c.requires.
 
 pub returns : goal.returns
 unfolding booked_in
-returns c = let n = c.wide.ensures in
+returns c =
     tables-same
     (ap (λ r. r ++ drop members c.args.accounts.now) c.enter.ensures ∙ accounts-head c.requires.0 c.requires.1 c.requires.2)
     c.count_head.ensures
-    (rw n (pays-head c.requires.0 c.requires.1 c.requires.2 c.close_one.new.s (rw n at c.close_one.ensures)))
+    (pays-head c.requires.0 c.requires.1 c.requires.2 c.close_one.new.s c.close_one.ensures)

@@ -1,23 +1,27 @@
-use mathlib.Core.Path.{◌≡◌, refl, ap, ◌∙◌}
+-- `booking::tally` meets its contract: the sum of the list is that of the counts which it gives.
+use mathlib.Core.Path.{◌≡◌, refl, sym, ap, ◌∙◌}
+use mathlib.Core.List.{List}
+use Prim.Native.Nat.{ℕ, zero, suc, ◌+◌, ◌≤◌}
 use native.Mathlib.Numerals.{add-one}
 use native.Mathlib.Omega.{arith}
-use lib.ListN.{length}
+use lib.ListN.{length, get_or, take}
+use lib.Seq.{take-length}
+use Rattle.std.proofs.Common.{rules}
+use Rattle.std.specs.List.{sum as list_sum}
+use Rattle.std.proofs.iter.runs.Sources.{sums}
+use Rattle.std.proofs.lemmas.List.Sums.{sum_by_more}
 use Rattle.rule.specs.Kernel.{sum}
 use Rattle.booking.specs.Booking.{listed}
 use Rattle.booking.proofs.tally.Goals as goal
 
-pub loop-i-init : goal.loop-i-init
-loop-i-init c = (omega arith, refl, omega arith)
+counted : (l : List ℕ) (n : ℕ) → n ≤ length l → list_sum (take n l) ≡ sum n (listed l)
+counted l zero h = refl
+counted l (suc n) h = rw add-one at (sum_by_more (λ x. x) l n 0 (omega arith)) ∙ ap (λ k. k + get_or l n 0) (counted l n (omega arith))
 
-pub overflow_cast-n : goal.overflow_cast-n
-overflow_cast-n c = omega (arith, c.shared_slice_known-1.given c.loop-i.i)
-
-pub overflow_add-n : goal.overflow_add-n
-overflow_add-n c = omega (arith, c.shared_slice_known-1.given c.loop-i.i)
-
-pub loop-i-preserved : goal.loop-i-preserved
-loop-i-preserved c = (omega arith, rw (c.loop-i.invariant.1, add-one), omega (arith, c.shared_slice_known-1.given c.loop-i.i))
+pub sum-requires-clause-fits : goal.sum-requires-clause-fits
+sum-requires-clause-fits c = search (rules, sums)
 
 pub returns : goal.returns
-returns c = let e : c.loop-i.i ≡ length c.args.counts.now = omega arith in c.loop-i.invariant.1
-    ∙ ap (λ k. sum k (listed c.args.counts.now)) e
+returns c = let l = c.args.counts.now in
+    let e : c.sum.result ≡ list_sum l = search rules in
+    e ∙ ap list_sum (sym (take-length l)) ∙ counted l (length l) (omega arith)

@@ -1,12 +1,14 @@
-use native.Mathlib.Omega.{arith}
-use Rattle.dayfile.proofs.Fields.{tab-here, tab-later, tab-end}
+-- `dayfile::next_tab` meets its contract. The first tab in what is left of the line is the next.
+use Rattle.std.proofs.Common.{◌≡◌, ◌-◌, length, take, drop, ap, ◌∙◌, arith, rules}
+use Rattle.numbers.proofs.Reading.{rest_all}
+use Rattle.dayfile.specs.Fields.{up_to}
+use Rattle.dayfile.proofs.Fields.{tab_at}
 use Rattle.dayfile.proofs.next_tab.Goals as goal
 
-pub returns-then-line-i-eq9 : goal.returns-then-line-i-eq9
-returns-then-line-i-eq9 c = omega (arith, tab-here c.args.line.now c.loop-i.i (omega arith) c.if-line-i-eq9.true)
-
-pub loop-i-preserved : goal.loop-i-preserved
-loop-i-preserved c = omega (arith, tab-later c.args.line.now c.loop-i.i (omega arith) c.if-line-i-eq9.false)
-
 pub returns : goal.returns
-returns c = omega (arith, tab-end c.args.line.now c.loop-i.i (omega arith))
+returns c =
+    let s = c.args.line.now in
+    let r = c.unwrap_or.result in
+    let e : r ≡ up_to (drop c.args.from s) =
+    tab_at (take (length s - c.args.from) (drop c.args.from s)) r (search rules) (search rules) (search rules) ∙ ap up_to (rest_all c.args.from s) in
+    (omega arith, omega arith, search rules)

@@ -33,4 +33,4 @@ returns c = let s = c.args in
     let d = c.next_tab-c in
     three-fields s.line.now s.from a.result (omega arith) a.ensures.0 (omega arith)
     b.result (omega arith) b.ensures.0 (omega arith) d.result (omega arith) d.ensures.0 (omega arith) (omega arith)
-    _ _ _ c.number_at.ensures c.signed_at.ensures c.number_at-2.ensures c.member.ensures
+    _ _ _ c.read_number-number.ensures c.read_signed-balance.ensures c.read_number-limit.ensures c.member.ensures

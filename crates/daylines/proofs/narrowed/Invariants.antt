@@ -2,12 +2,9 @@
 use Rattle.daylines.specs.Calls.{capped}
 use lib.ListN.{length, get_or}
 use Rattle.tables.specs.Sizes.{members}
-use Prim.Native.Nat.{ℕ, ◌-◌, ◌≤◌, ◌<◌}
+use Prim.Native.Nat.{ℕ, ◌<◌}
 use mathlib.Core.Path.{◌≡◌}
 use Rattle.daylines.proofs.narrowed.Given as goal
 
 abbrev pub invariant-loop-i : goal.invariant-loop-i
-invariant-loop-i l = (length l.k ≡ members) × (l.i ≤ l.m) × ((j : ℕ) → j < l.i → get_or l.k j 0 ≡ capped (get_or l.counts j 0))
-
-abbrev pub decreases-loop-i : goal.decreases-loop-i
-decreases-loop-i l = l.m - l.i
+invariant-loop-i l = (length l.k ≡ members) × ((j : ℕ) → j < l.i → get_or l.k j 0 ≡ capped (get_or l.counts j 0))

@@ -1,54 +1,21 @@
-use native.Mathlib.Omega.{arith}
-use borrow.Author.Rules.{rules}
-use mathlib.Core.Path.{refl, sym, ◌∙◌}
-use Rattle.numbers.proofs.Reading.{read_none, read-long, read-leading, read-zero, read-digits, read_step, read_low, read-high, read-end, grows, fits}
+use Rattle.std.proofs.Common.{arith}
+use Rattle.std.proofs.lemmas.Grind.{common_steps}
+use Rattle.numbers.proofs.Reading.{read_step, read_other, read-end, grows, fits}
 use Rattle.numbers.proofs.read_number.Goals as goal
 
-pub returns-then-n-lt1 : goal.returns-then-n-lt1
-returns-then-n-lt1 c = sym (read_none c.args.field.now (omega arith))
-
-pub returns-then-n-gt-MOST_DIGITS : goal.returns-then-n-gt-MOST_DIGITS
-returns-then-n-gt-MOST_DIGITS c = sym (read-long c.args.field.now (omega arith))
-
-pub returns-then-n-gt1 : goal.returns-then-n-gt1
-returns-then-n-gt1 c = sym (read-leading c.args.field.now (omega arith) (omega arith) c.if-field-eq48.true (omega arith))
-
-pub returns-then-field-eq48 : goal.returns-then-field-eq48
-returns-then-field-eq48 c = sym (read-zero c.args.field.now (omega arith) (omega arith) c.if-field-eq48.true (omega arith))
-
-pub loop-i-init : goal.loop-i-init
-loop-i-init c = (
-  omega arith,
-  refl,
-  omega arith,
-  omega arith,
-  read-digits c.args.field.now (omega arith) (omega arith)
-      c.if-field-eq48.false,
-)
-
-pub returns-then-b-lt48 : goal.returns-then-b-lt48
-returns-then-b-lt48 c = let l = c.loop-i in
-    let f = c.args.field.now in
-    sym (l.invariant.4 ∙ read_low f l.i l.x (omega arith) c.if-b-lt48.true)
-
-pub returns-then-b-gt57 : goal.returns-then-b-gt57
-returns-then-b-gt57 c = let l = c.loop-i in
-    let f = c.args.field.now in
-    sym (l.invariant.4 ∙ read-high f l.i l.x (omega arith) c.if-b-gt57.true)
+pub returns-then-not-is_ascii_digit : goal.returns-then-not-is_ascii_digit
+returns-then-not-is_ascii_digit c = grind (arith, common_steps, read_other)
 
 pub overflow_mul-x : goal.overflow_mul-x
-overflow_mul-x c = omega (arith, fits c.loop-i.x c.loop-i.i (search rules) (omega arith))
+overflow_mul-x c = omega (arith, fits c.loop-b.x c.loop-b.b-index (omega arith) (omega arith))
 
 pub overflow_add-x : goal.overflow_add-x
-overflow_add-x c = omega (arith, fits c.loop-i.x c.loop-i.i (search rules) (omega arith))
+overflow_add-x c = omega (arith, fits c.loop-b.x c.loop-b.b-index (omega arith) (omega arith))
 
-pub loop-i-preserved : goal.loop-i-preserved
-loop-i-preserved c = let l = c.loop-i in
-    let d = c.wide.ensures in
-    let g = grows l.x l.i c.wide.result l.invariant.3 (omega arith) in
-    (omega arith, refl, omega arith, g, rw d (l.invariant.4 ∙ read_step c.args.field.now l.i l.x (omega arith) (omega arith) (omega arith)))
+pub loop-b-preserved : goal.loop-b-preserved
+loop-b-preserved c =
+    let l = c.loop-b in
+    (grows l.x l.b-index c.from.result l.invariant.0 (grind (arith, common_steps)), grind (arith, common_steps, read_step))
 
 pub returns : goal.returns
-returns c = let l = c.loop-i in
-    let f = c.args.field.now in
-    sym (l.invariant.4 ∙ read-end f l.i l.x (omega arith))
+returns c = grind (arith, common_steps, read-end)

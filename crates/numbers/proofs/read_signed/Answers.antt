@@ -1,26 +1,32 @@
 -- `numbers::read_signed` meets its contract. The field behind the sign, or the whole field, is read as a number.
-use Prim.Native.Nat.{◌-◌}
-use lib.ListN.{length, take, drop}
-use mathlib.Core.Path.{ap, ◌∙◌}
-use borrow.Author.Tests.{eq-eqb, ne_eqb}
-use Rattle.numbers.specs.Numbers.{from_zero, below_zero, number_of}
-use Rattle.numbers.proofs.Reading.{small_of, rest_all}
-use Rattle.numbers.proofs.Signs.{empty-signed}
+use Rattle.std.proofs.Common.{arith, sym, ◌∙◌, ◌-◌, length, take, drop}
+use Rattle.std.proofs.lemmas.Int.{ints}
+use Rattle.numbers.proofs.Signs.{value_lt, minus_read, plus_read}
 use Rattle.numbers.proofs.read_signed.Goals as goal
 
-pub returns-then-field-lt1 : goal.returns-then-field-lt1
-returns-then-field-lt1 c = empty-signed c.args.field.now c.if-field-lt1.true
+pub overflow_cast-result : goal.overflow_cast-result
+overflow_cast-result c =
+    let f = c.args.field.now in
+    let h = value_lt (take (length f - 1) (drop 1 f)) c.in_ok-x-in-45.x (sym c.read_number.ensures ∙ c.in_ok-x-in-45.was) in
+    omega (arith, ints)
 
-pub below_zero-requires : goal.below_zero-requires
-below_zero-requires c = let f = c.args.field.now in
-    small_of _ (take (length f - 1) (drop 1 f)) c.read_number.ensures
+pub overflow_sub-result : goal.overflow_sub-result
+overflow_sub-result c =
+    let f = c.args.field.now in
+    let h = value_lt (take (length f - 1) (drop 1 f)) c.in_ok-x-in-45.x (sym c.read_number.ensures ∙ c.in_ok-x-in-45.was) in
+    omega (arith, ints)
 
-pub returns-then-field-eq45 : goal.returns-then-field-eq45
-returns-then-field-eq45 c = let f = c.args.field.now in
-    rw (eq-eqb _ _ c.if-field-eq45.true) (c.below_zero.ensures ∙ ap below_zero (c.read_number.ensures ∙ ap number_of (rest_all 1 f)))
+pub overflow_cast-result-in_default : goal.overflow_cast-result-in_default
+overflow_cast-result-in_default c =
+    let r = c.in_ok-read_number-in_default in
+    let h = value_lt c.args.field.now r.field-0 (sym c.read_number-in_default.ensures ∙ r.was) in
+    omega (arith, ints)
 
-pub from_zero-requires : goal.from_zero-requires
-from_zero-requires c = small_of _ c.args.field.now c.read_number-2.ensures
+pub returns-in_default-2 : goal.returns-in_default-2
+returns-in_default-2 c =
+    minus_read c.args.field.now c.in_ok-x-in-45.x (omega arith) (omega arith) (sym c.read_number.ensures ∙ c.in_ok-x-in-45.was)
 
-pub returns : goal.returns
-returns c = rw (ne_eqb _ _ c.if-field-eq45.false) (c.from_zero.ensures ∙ ap from_zero c.read_number-2.ensures)
+pub returns-in_ok-read_number-in_default : goal.returns-in_ok-read_number-in_default
+returns-in_ok-read_number-in_default c =
+    let r = c.in_ok-read_number-in_default in
+    plus_read c.args.field.now r.field-0 (omega arith) (sym c.read_number-in_default.ensures ∙ r.was)

@@ -1,23 +1,19 @@
+-- `opening::fill_accounts` meets its contract: the balances and the lines are put in what was filled.
+use mathlib.Core.Path.{◌≡◌, refl}
+use Prim.Native.Nat.{◌+◌, ◌-◌}
 use native.Mathlib.Omega.{arith}
-use Rattle.rule.proofs.Ints.{plain}
-use Rattle.tables.proofs.Filling.{fill_start, fill-same, fill_more, fill_end}
+use lib.IntN.{pos}
+use lib.ListN.{length}
+use Rattle.tables.specs.Sizes.{table}
+use Rattle.tables.specs.Layout.{lines_at}
+use Rattle.opening.proofs.Filled.{filled-same, filled-accounts}
 use Rattle.opening.proofs.fill_accounts.Goals as goal
 
-pub loop-k-init : goal.loop-k-init
-loop-k-init c = fill_start
-
-pub bounds-accounts-k : goal.bounds-accounts-k
-bounds-accounts-k c = omega (arith, fill-same c.loop-k.invariant c.requires.table_in_bounds)
-
-pub loop-k-smaller : goal.loop-k-smaller
-loop-k-smaller c = omega arith
-
-pub loop-k-preserved : goal.loop-k-preserved
-loop-k-preserved c = let o = c.account_at.type_inv in
-    fill_more c.loop-k.invariant c.requires.table_in_bounds (omega arith) (simp plain c.account_at.ensures)
-
-pub shape_of-accounts : goal.shape_of-accounts
-shape_of-accounts c = fill-same c.loop-k.invariant c.requires.table_in_bounds
-
 pub returns : goal.returns
-returns c = fill_end c.loop-k.invariant (omega arith)
+returns c =
+    let z = filled-same table (pos 0) c.args.accounts.now c.requires.table_in_bounds (c.fill.ensures.after (λ y e. e)) in
+    let b = c.args.balances.now in
+    let k : lines_at + length b - lines_at ≡ length b = omega arith in
+    let r = c.requires.n_le_members in
+    rw (k, c.copy_from_slice-2.ensures.after, c.copy_from_slice.ensures.after, z)
+    (filled-accounts (length b) b c.args.lines.now c.args.accounts.now r.0 refl r.1 c.requires.table_in_bounds)

@@ -1,23 +1,14 @@
-use borrow.Author.Tests.{eq-eqb, ne_eqb}
-use native.Mathlib.Omega.{arith}
-use Rattle.tables.proofs.Filling.{fill_start, fill-same, fill_more, fill_end}
+-- `opening::fill_counters` meets its contract: the count is set in what was filled.
+use mathlib.Core.Path.{ap, ◌∙◌}
+use mathlib.Core.List.{List}
+use Prim.Native.Nat.{ℕ}
+use lib.ListN.{set}
+use Rattle.tables.specs.Sizes.{table}
+use Rattle.tables.specs.Layout.{members_at}
+use Rattle.opening.proofs.Filled.{filled-same, filled-count}
 use Rattle.opening.proofs.fill_counters.Goals as goal
-use Rattle.opening.proofs.fill_counters.Goals.{else-k-eq0, then-k-eq0}
-
-pub loop-k-init : goal.loop-k-init
-loop-k-init c = fill_start
-
-pub bounds-counters-k : goal.bounds-counters-k
-bounds-counters-k c = omega (arith, fill-same c.loop-k.invariant c.requires.0)
-
-pub loop-k-smaller : goal.loop-k-smaller
-loop-k-smaller c = omega arith
-
-pub loop-k-preserved : goal.loop-k-preserved
-loop-k-preserved c = fill_more c.loop-k.invariant c.requires.0 (omega arith) (elim c.if-k-eq0.branch [ then-k-eq0 w ↦ rw (w.counters-is, eq-eqb c.loop-k.k 0 w.if-k-eq0.true) | else-k-eq0 w ↦ rw (w.counters-is, ne_eqb c.loop-k.k 0 w.if-k-eq0.false) ])
-
-pub shape_of-counters : goal.shape_of-counters
-shape_of-counters c = fill-same c.loop-k.invariant c.requires.0
 
 pub returns : goal.returns
-returns c = fill_end c.loop-k.invariant (omega arith)
+returns c =
+    let z = filled-same table 0 c.args.counters.now c.requires.0 (c.fill.ensures.after (λ y e. e)) in
+    ap (λ (l : List ℕ). set l members_at c.args.n) z ∙ filled-count c.args.n c.args.counters.now c.requires.0

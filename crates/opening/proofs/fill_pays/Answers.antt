@@ -1,19 +1,7 @@
-use mathlib.Core.Path.{refl}
-use native.Mathlib.Omega.{arith}
-use Rattle.tables.proofs.Filling.{fill_start, fill-same, fill_more, fill_end}
+-- `opening::fill_pays` meets its contract: a slice that is filled holds one value.
+use Rattle.tables.specs.Sizes.{places}
+use Rattle.opening.proofs.Filled.{filled-same}
 use Rattle.opening.proofs.fill_pays.Goals as goal
 
-pub loop-k-init : goal.loop-k-init
-loop-k-init c = fill_start
-
-pub bounds-pays-k : goal.bounds-pays-k
-bounds-pays-k c = omega (arith, fill-same c.loop-k.invariant c.requires)
-
-pub loop-k-preserved : goal.loop-k-preserved
-loop-k-preserved c = fill_more c.loop-k.invariant c.requires (omega arith) refl
-
-pub shape_of-pays : goal.shape_of-pays
-shape_of-pays c = fill-same c.loop-k.invariant c.requires
-
 pub returns : goal.returns
-returns c = fill_end c.loop-k.invariant (omega arith)
+returns c = filled-same places 0 c.args.pays.now c.requires (c.fill.ensures.after (λ y e. e))

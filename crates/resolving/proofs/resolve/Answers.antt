@@ -17,15 +17,15 @@ use Rattle.resolving.specs.Resolve.{resolve_act}
 use Rattle.resolving.proofs.Resolving.{largest-counted, largest-told, settles}
 use Rattle.resolving.proofs.resolve.Goals as goal
 
-pub returns-then-counts-wide : goal.returns-then-counts-wide
+pub returns-then-counts-counters : goal.returns-then-counts-counters
 unfolding resolve_act
-returns-then-counts-wide c =
+returns-then-counts-counters c =
     let lent : Tables = tables c.args.accounts.now c.args.counters.now c.args.pays.now in
-    let bad = ne_eqb (length c.args.counts.now) (count_of c.args.counters.now) (λ e. c.if-counts-wide.true (e ∙ sym c.wide.ensures)) in
+    let bad = ne_eqb (length c.args.counts.now) (count_of c.args.counters.now) c.if-counts-counters.true in
     record { pays_after = sym (held-bad (resolve_act c.args.counts.now) lent (rw bad)); told_largest = tt }
 
-pub book-sum-requires : goal.book-sum-requires
-book-sum-requires c = record { counted = largest-counted c.requires c.largest-all.ensures.largest_is; weighed = c.largest-all.ensures.weighed }
+pub book-sum-requires-clause-counted : goal.book-sum-requires-clause-counted
+book-sum-requires-clause-counted c = largest-counted c.requires c.largest-all.ensures.largest_is
 
 pub still_waiting-requires : goal.still_waiting-requires
 still_waiting-requires c = let h = c.requires in
@@ -38,14 +38,12 @@ pub returns : goal.returns
 unfolding resolve_act
 returns c =
     let lent : Tables = tables c.args.accounts.now c.args.counters.now c.args.pays.now in
-    let fits : length c.args.counts.now ≡ count_of c.args.counters.now = c.if-counts-wide.false ∙ c.wide.ensures in
-    let tallied : c.tally-settled.result ≡ sum members (listed c.largest-all.result) = c.tally-settled.ensures ∙ ap (λ k. sum k (listed c.largest-all.result)) c.largest-all.ensures.largest_is.each in
     let l = c.largest-all.ensures.largest_is in
-    let n = fits in
-    let t = tallied in
-    let k = c.tell.ensures ∙ ap (λ m. take m c.largest-all.result) n in
+    let n = c.if-counts-counters.false in
+    let t : c.tally-settled.result ≡ sum members (listed c.largest-all.result) = c.tally-settled.ensures ∙ ap (λ k. sum k (listed c.largest-all.result)) l.each in
+    let k = c.copy_from_slice.ensures.after ∙ ap (λ m. take m c.largest-all.result) n in
     let v = c.verdict_of.ensures ∙ ap (λ m. named (verdict_of (waiting_of c.args.counters.now) m)) t in record {
-      pays_after = settles c.requires l c.args.counts.now _ c.book-sum.ensures.pays_after k v t c.book-sum.ensures.value c.still_waiting.ensures
+      pays_after = settles c.requires l c.args.counts.now _ c.book-sum.ensures.pays_after k v (c.from.ensures ∙ t) c.book-sum.ensures.value c.still_waiting.ensures
           ∙ sym (held-fine (resolve_act c.args.counts.now) lent (rw (eq-eqb (length c.args.counts.now) (count_of c.args.counters.now) n)));
       told_largest = largest-told c.requires l k;
     }

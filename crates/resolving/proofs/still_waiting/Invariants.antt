@@ -6,6 +6,3 @@ use Rattle.resolving.proofs.still_waiting.Given as goal
 
 abbrev pub invariant-loop-i : goal.invariant-loop-i
 invariant-loop-i l = Read (count_of l.counters) (has_waiting l.counters) l.set l.i
-
-abbrev pub decreases-loop-i : goal.decreases-loop-i
-decreases-loop-i l = l.i

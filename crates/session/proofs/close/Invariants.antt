@@ -8,12 +8,12 @@ use mathlib.Core.List.{[]}
 use mathlib.Core.Path.{◌≡◌}
 use Rattle.session.proofs.close.Given as goal
 
-abbrev pub invariant-loop-counts : goal.invariant-loop-counts
-invariant-loop-counts l =
-    Going close_turn (closes_on (length l.initial.out)) (desk_of [] l.initial.t (tables l.initial.accounts l.initial.counters l.initial.pays) l.initial.out l.buf) l.initial.t.used l.initial.out [] l.buf l.counts l.out
+abbrev pub invariant-loop-buffers : goal.invariant-loop-buffers
+invariant-loop-buffers l =
+    Going close_turn (closes_on (length l.initial.out)) (desk_of [] l.initial.t (tables l.initial.accounts l.initial.counters l.initial.pays) l.initial.out l.initial.buffers.line) l.initial.t.used l.initial.out [] l.buffers.line l.out
     (tables l.accounts l.counters l.pays) l.t
-    × (length l.accounts ≡ length l.initial.accounts) × (length l.counters ≡ length l.initial.counters) × (length l.pays ≡ length l.initial.pays)
+    × (l.buffers.line ≡ l.initial.buffers.line)
 
-abbrev pub decreases-loop-counts : goal.decreases-loop-counts
-decreases-loop-counts l =
+abbrev pub decreases-loop-buffers : goal.decreases-loop-buffers
+decreases-loop-buffers l =
     turns_left l.t.stage l.t.cut.held

@@ -5,15 +5,14 @@ use Rattle.desk.specs.States.{desk_of, turns_left}
 use Rattle.tables.specs.Layout.{tables}
 use lib.ListN.{length, drop}
 use Prim.Native.Nat.{◌-◌, ◌≤◌}
-use mathlib.Core.Path.{◌≡◌}
 use Rattle.session.proofs.feed.Given as goal
 
-abbrev pub invariant-loop-at : goal.invariant-loop-at
-invariant-loop-at l =
-    Going turn_of (goes_on (length l.initial.out)) (desk_of (drop l.from l.chunk) l.initial.t.state (tables l.initial.accounts l.initial.counters l.initial.pays) l.initial.out l.initial.buf) l.initial.t.state.used l.initial.out
-    (drop l.t.at l.chunk) l.buf l.counts l.out (tables l.accounts l.counters l.pays) l.t.state
-    × (l.t.at ≤ length l.chunk) × (length l.accounts ≡ length l.initial.accounts) × (length l.counters ≡ length l.initial.counters) × (length l.pays ≡ length l.initial.pays)
+abbrev pub invariant-loop-buffers : goal.invariant-loop-buffers
+invariant-loop-buffers l =
+    Going turn_of (goes_on (length l.initial.out)) (desk_of (drop l.from l.chunk) l.initial.t.state (tables l.initial.accounts l.initial.counters l.initial.pays) l.initial.out l.initial.buffers.line) l.initial.t.state.used l.initial.out
+    (drop l.t.at l.chunk) l.buffers.line l.out (tables l.accounts l.counters l.pays) l.t.state
+    × (l.t.at ≤ length l.chunk)
 
-abbrev pub decreases-loop-at : goal.decreases-loop-at
-decreases-loop-at l =
+abbrev pub decreases-loop-buffers : goal.decreases-loop-buffers
+decreases-loop-buffers l =
     turns_left l.t.state.stage (length l.chunk - l.t.at)

@@ -1,12 +1,7 @@
-use native.Mathlib.Omega.{arith}
-use Rattle.settling.proofs.Counts.{widen-start, widen-turn, widen-end}
+-- `settling::widened` meets its contract: no loop; zeros stand behind the counts.
+use Rattle.tables.specs.Sizes.{members}
+use Rattle.settling.proofs.Counts.{listed-widened}
 use Rattle.settling.proofs.widened.Goals as goal
 
-pub loop-i-init : goal.loop-i-init
-loop-i-init c = widen-start _
-
-pub loop-i-preserved : goal.loop-i-preserved
-loop-i-preserved c = widen-turn _ _ _ c.requires (omega arith) c.loop-i.invariant
-
 pub returns : goal.returns
-returns c = (c.loop-i.invariant.each, widen-end _ _ _ (omega arith) c.loop-i.invariant)
+returns c = rw c.copy_from_slice.ensures.after (listed-widened c.args.counts.now members)

@@ -1,18 +1,10 @@
 -- `sheet::put_start` meets its contract. The tab stands behind the number.
 use native.Mathlib.Omega.{arith}
-use lib.ListN.{length}
-use Rattle.sheet.proofs.Start.{shown-room, shown-put}
+use mathlib.Core.List.{[], ◌∷◌}
+use Rattle.numbers.specs.Numbers.{digits_of}
+use Rattle.sheet.proofs.Texts.{behind}
 use Rattle.sheet.proofs.put_start.Goals as goal
 
-pub put_number-a-requires : goal.put_number-a-requires
-put_number-a-requires c = omega (arith, shown-room c.args.shown c.args.line (length c.args.out.now) c.if-shown.true c.requires)
-
-pub put_bytes-requires : goal.put_bytes-requires
-put_bytes-requires c = let n = c.put_number-a in
-    omega (arith, shown-room c.args.shown c.args.line (length c.args.out.now) c.if-shown.true c.requires, n.ensures.0, n.auto)
-
-pub returns-then-shown : goal.returns-then-shown
-returns-then-shown c = let n = c.put_number-a in
-    let b = c.put_bytes in
-    shown-put c.args.shown c.args.line c.args.out.now n.new.out b.new.out n.result b.result c.if-shown.true
-    n.ensures.0 n.ensures.1 b.ensures.0 b.ensures.1
+pub returns-in-Some : goal.returns-in-Some
+returns-in-Some c = let b = behind c.args.out.now (digits_of c.in-Some.line) (9 ∷ []) 0 c.put_number-a.ensures c.put_bytes.ensures in
+    rw c.in-Some.is (omega (arith, b.0), b.1)

@@ -10,7 +10,7 @@ use Rattle.snarevapor.proofs.snarevapor_deposit.Goals as goal
 
 pub returns-then-not-is_roomy : goal.returns-then-not-is_roomy
 returns-then-not-is_roomy c = let x = lends c.args.tables.now [] c.args.answer.now in
-    reply-short 8 told_deposited (called (deposit_act c.args.member c.args.amount)) x (flag-no c.is_roomy.ensures c.if-not-is_roomy.true)
+    rw c.from.ensures (reply-short 8 told_deposited (called (deposit_act c.args.member c.args.amount)) x (flag-no c.is_roomy.ensures c.if-not-is_roomy.true))
 
 pub deposit-requires : goal.deposit-requires
 deposit-requires c = lent-room _ _ 8 (flag-yes c.is_roomy.ensures c.if-not-is_roomy.false)
@@ -18,4 +18,4 @@ deposit-requires c = lent-room _ _ 8 (flag-yes c.is_roomy.ensures c.if-not-is_ro
 pub returns : goal.returns
 returns c = let x = lends c.args.tables.now [] c.args.answer.now in
     let long = flag-yes c.is_roomy.ensures c.if-not-is_roomy.false in
-    reply-long 8 told_deposited (called (deposit_act c.args.member c.args.amount)) x long c.deposit.ensures
+    rw c.code.ensures (reply-long 8 told_deposited (called (deposit_act c.args.member c.args.amount)) x long c.deposit.ensures)

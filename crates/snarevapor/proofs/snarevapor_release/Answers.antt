@@ -9,7 +9,7 @@ use Rattle.lent.proofs.Replies.{lent-room, reply-long, reply-short}
 use Rattle.snarevapor.proofs.snarevapor_release.Goals as goal
 
 pub returns-then-not-is_roomy : goal.returns-then-not-is_roomy
-returns-then-not-is_roomy c = reply-short 16 told_released (called (release_act c.args.member)) (lends c.args.tables.now [] c.args.answer.now) (flag-no c.is_roomy.ensures c.if-not-is_roomy.true)
+returns-then-not-is_roomy c = rw c.from.ensures (reply-short 16 told_released (called (release_act c.args.member)) (lends c.args.tables.now [] c.args.answer.now) (flag-no c.is_roomy.ensures c.if-not-is_roomy.true))
 
 pub release-requires : goal.release-requires
 release-requires c = lent-room _ _ 16 (flag-yes c.is_roomy.ensures c.if-not-is_roomy.false)
@@ -17,4 +17,4 @@ release-requires c = lent-room _ _ 16 (flag-yes c.is_roomy.ensures c.if-not-is_r
 pub returns : goal.returns
 returns c = let x = lends c.args.tables.now [] c.args.answer.now in
     let long = flag-yes c.is_roomy.ensures c.if-not-is_roomy.false in
-    reply-long 16 told_released (called (release_act c.args.member)) x long c.release.ensures
+    rw c.code.ensures (reply-long 16 told_released (called (release_act c.args.member)) x long c.release.ensures)

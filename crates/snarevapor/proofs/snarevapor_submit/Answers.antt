@@ -10,7 +10,7 @@ use Rattle.snarevapor.proofs.snarevapor_submit.Goals as goal
 
 pub returns-then-not-is_roomy : goal.returns-then-not-is_roomy
 returns-then-not-is_roomy c = let k = submit_act c.args.payer c.args.number c.args.payee c.args.amount in
-    reply-short 0 told_submitted (called k) (lends c.args.tables.now [] []) (flag-no c.is_roomy.ensures c.if-not-is_roomy.true)
+    rw c.from.ensures (reply-short 0 told_submitted (called k) (lends c.args.tables.now [] []) (flag-no c.is_roomy.ensures c.if-not-is_roomy.true))
 
 pub submit-requires : goal.submit-requires
 submit-requires c = (lent-room _ 0 0 (flag-yes c.is_roomy.ensures c.if-not-is_roomy.false)).0
@@ -18,4 +18,4 @@ submit-requires c = (lent-room _ 0 0 (flag-yes c.is_roomy.ensures c.if-not-is_ro
 pub returns : goal.returns
 returns c = let k = submit_act c.args.payer c.args.number c.args.payee c.args.amount in
     let long = flag-yes c.is_roomy.ensures c.if-not-is_roomy.false in
-    reply-long 0 told_submitted (called k) (lends c.args.tables.now [] []) long c.submit.ensures
+    rw c.code.ensures (reply-long 0 told_submitted (called k) (lends c.args.tables.now [] []) long c.submit.ensures)

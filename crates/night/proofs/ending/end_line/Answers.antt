@@ -6,15 +6,14 @@ use Rattle.rule.proofs.Ints.{plain}
 use native.Mathlib.Omega.{arith}
 use Rattle.night.proofs.ending.end_line.Goals as goal
 
-pub overflow_sub-left : goal.overflow_sub-left
-overflow_sub-left c = (left-waits c.requires.holds c.args.k (omega arith)).some
+pub waiting_of-left-requires : goal.waiting_of-left-requires
+waiting_of-left-requires c =
+    let h = c.requires.holds.counters in
+    (omega (arith, h.broad), omega (arith, h.few), (left-waits c.requires.holds c.args.k (omega arith)).some)
 
-pub overflow_cast-result : goal.overflow_cast-result
-overflow_cast-result c = omega (arith, (left-waits c.requires.holds c.args.k (omega arith)).few)
-
-pub returns-then-i-count : goal.returns-then-i-count
-returns-then-i-count c = let t : Tables = tables c.args.accounts.now c.args.counters.now c.args.pays.now in
-    simp (plain, c.result-1.given) (end-balance t c.requires.holds c.args.k (omega arith))
+pub returns-then-k-from : goal.returns-then-k-from
+returns-then-k-from c = let t : Tables = tables c.args.accounts.now c.args.counters.now c.args.pays.now in
+    simp (plain, c.result-1.given, c.waiting_of-left.ensures, c.from-then-k-from.ensures) (end-balance t c.requires.holds c.args.k (omega arith))
 
 pub total-requires : goal.total-requires
 total-requires c = accounts-bounded c.requires.holds.accounts

@@ -1,23 +1,19 @@
-use mathlib.Core.Path.{◌≡◌}
+-- `tables::look::spare_ok` meets its contract: `all` tests each spare account.
 use native.Mathlib.Omega.{arith}
-use Rattle.rule.proofs.Ints.{plain}
-use Rattle.tables.proofs.Every.{every-start, every_more, every-fail, every-end}
-use Rattle.tables.proofs.Tests.{flag-no, flag-yes}
-use Rattle.tables.specs.State.{spare_at}
+use mathlib.Core.Path.{refl, ◌∙◌}
+use borrow.Author.Tests.{tests}
+use lib.IntN.{pos}
+use Rattle.std.specs.Ordering.{int_eq}
+use Rattle.std.proofs.Common.{rules, ◌+◌, get_or}
+use Rattle.std.proofs.lemmas.Iterator.{YieldsList-from_slice}
+use Rattle.std.proofs.lemmas.Iterator.Search.{all_from_yields_List}
+use Rattle.tables.specs.Layout.{spare_accounts, spare_accounts_at}
+use Rattle.tables.proofs.Every.{every-part}
+use Rattle.tables.proofs.Tests.{zero-same}
 use Rattle.tables.proofs.look.spare_ok.Goals as goal
 
-pub loop-k-init : goal.loop-k-init
-loop-k-init c = every-start
-
-pub returns-then-not-is_zero : goal.returns-then-not-is_zero
-returns-then-not-is_zero c =
-    let answer : c.is_zero.result ≡ spare_at c.args.accounts.now c.loop-k.k = let g = c.is_zero-arg-1.given in simp plain at c.is_zero.ensures in
-    every-fail c.loop-k.invariant (omega arith) (flag-no answer c.if-not-is_zero.true)
-
-pub loop-k-preserved : goal.loop-k-preserved
-loop-k-preserved c =
-    let answer : c.is_zero.result ≡ spare_at c.args.accounts.now c.loop-k.k = let g = c.is_zero-arg-1.given in simp plain at c.is_zero.ensures in
-    every_more c.loop-k.invariant (omega arith) (flag-yes answer c.if-not-is_zero.false)
-
 pub returns : goal.returns
-returns c = every-end c.loop-k.invariant (omega arith)
+returns c =
+    let a = c.args.accounts.now in
+    all_from_yields_List (λ z. int_eq z (pos 0)) _ _ _ c.all.ensures.ran (YieldsList-from_slice _ c.iter.ensures.rest) (λ x b q k. search (rules, tests))
+    ∙ every-part _ _ (pos 0) a spare_accounts_at _ spare_accounts refl (omega arith) (λ k h. zero-same (get_or a (spare_accounts_at + k) (pos 0)))

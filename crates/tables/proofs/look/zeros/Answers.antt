@@ -1,16 +1,15 @@
-use borrow.Author.Tests.{eq-eqb, ne_eqb}
+-- `tables::look::zeros` meets its contract: `all` tests each counter.
 use native.Mathlib.Omega.{arith}
-use Rattle.tables.proofs.Every.{every-start, every_more, every-fail, every-end}
+use mathlib.Core.Path.{refl, ◌∙◌}
+use lib.Dec.{eqb}
+use borrow.Author.Tests.{tests}
+use Rattle.std.proofs.Common.{rules}
+use Rattle.std.proofs.lemmas.Iterator.{YieldsList-from_slice}
+use Rattle.std.proofs.lemmas.Iterator.Search.{all_from_yields_List}
+use Rattle.tables.proofs.Every.{every-part}
 use Rattle.tables.proofs.look.zeros.Goals as goal
 
-pub loop-k-init : goal.loop-k-init
-loop-k-init c = every-start
-
-pub returns-then-counters-from-ne0 : goal.returns-then-counters-from-ne0
-returns-then-counters-from-ne0 c = every-fail c.loop-k.invariant (omega arith) (ne_eqb _ _ c.if-counters-from-ne0.true)
-
-pub loop-k-preserved : goal.loop-k-preserved
-loop-k-preserved c = every_more c.loop-k.invariant (omega arith) (eq-eqb _ _ c.if-counters-from-ne0.false)
-
 pub returns : goal.returns
-returns c = every-end c.loop-k.invariant (omega arith)
+returns c =
+    all_from_yields_List (λ x. eqb x 0) _ _ _ c.all.ensures.ran (YieldsList-from_slice _ c.iter.ensures.rest) (λ x b q k. search (rules, tests))
+    ∙ every-part _ _ 0 c.args.counters.now c.args.from _ c.args.n (omega arith) c.requires (λ k h. refl)
