@@ -12,8 +12,6 @@ use Rattle.words.specs.Row.{put_row, as_it_is}
 use Rattle.answers.specs.Codes.{code_of}
 use Rattle.answers.specs.Outcome.{Outcome, outcome}
 use Rattle.answers.specs.declared.Refusal.{Refusal}
-use Rattle.std.specs.Prelude.{Result}
-use Rattle.answers.specs.declared.Resolution.{Resolution}
 use Rattle.lent.specs.Bytes.{tables_in, with_tables}
 use Rattle.lent.specs.Reply.{Lent, lends, Told, yes, no, written, on_bytes}
 
@@ -29,10 +27,6 @@ put-signed t f e = rw (to_z-of_z {w = w64} f) at e
 
 lends-same : {s t : List ℕ} {u v a b : List ℕ} → s ≡ t → u ≡ v → a ≡ b → lends s u a ≡ lends t v b
 lends-same e f g i = lends (e i) (f i) (g i)
-
--- an answer that comes with a list
-pub with-list : {r v : (Result Resolution Refusal)} {k : List ℕ} → r ≡ v → ◌≡◌ {A = Result Resolution Refusal × List ℕ} (r, k) (v, k)
-with-list {k = k} e = ap (λ (q : Result Resolution Refusal). (q, k)) e
 
 -- the house answered r, which is v, and left the lists W
 module _ {A : Type 0} (tell : A → Told) (f : Tables → Outcome A) (x : Lent) {T W : Tables} {r v : A}

@@ -1,12 +1,8 @@
 -- `booking::count_head` meets its contract: two stores, at two places.
-use mathlib.Core.Path.{sym, subst}
-use Prim.Native.Nat.{◌+◌, ◌≤◌}
+use Prim.Native.Nat.{◌+◌}
 use Rattle.tables.specs.Layout.{settled_of}
 use Rattle.booking.proofs.Heads.{counters-head, waiting_kept}
 use Rattle.booking.proofs.count_head.Goals as goal
-
-pub overflow_sub-counters : goal.overflow_sub-counters
-overflow_sub-counters c = subst (λ n. 1 ≤ n) (sym (waiting_kept c.args.counters.now c.args.seat (settled_of c.args.counters.now c.args.seat + 1))) c.requires.2
 
 pub returns : goal.returns
 returns c = rw (waiting_kept c.args.counters.now c.args.seat (settled_of c.args.counters.now c.args.seat + 1))

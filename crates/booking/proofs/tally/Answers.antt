@@ -8,7 +8,6 @@ use lib.ListN.{length, get_or, take}
 use lib.Seq.{take-length}
 use Rattle.std.proofs.Common.{rules}
 use Rattle.std.specs.List.{sum as list_sum}
-use Rattle.std.proofs.iter.runs.Sources.{sums}
 use Rattle.std.proofs.lemmas.List.Sums.{sum_by_more}
 use Rattle.rule.specs.Kernel.{sum}
 use Rattle.booking.specs.Booking.{listed}
@@ -17,9 +16,6 @@ use Rattle.booking.proofs.tally.Goals as goal
 counted : (l : List ℕ) (n : ℕ) → n ≤ length l → list_sum (take n l) ≡ sum n (listed l)
 counted l zero h = refl
 counted l (suc n) h = rw add-one at (sum_by_more (λ x. x) l n 0 (omega arith)) ∙ ap (λ k. k + get_or l n 0) (counted l n (omega arith))
-
-pub sum-requires-clause-fits : goal.sum-requires-clause-fits
-sum-requires-clause-fits c = search (rules, sums)
 
 pub returns : goal.returns
 returns c = let l = c.args.counts.now in

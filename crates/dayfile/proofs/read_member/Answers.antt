@@ -1,10 +1,7 @@
 -- `dayfile::read_member` meets its contract. The fields follow each other from tab to tab.
 use native.Mathlib.Omega.{arith}
-use Rattle.dayfile.proofs.Entries.{no_field, one_field, two_fields, more-fields, three-fields}
+use Rattle.dayfile.proofs.Entries.{one_field, two_fields, more-fields, three-fields}
 use Rattle.dayfile.proofs.read_member.Goals as goal
-
-pub returns-then-n-from : goal.returns-then-n-from
-returns-then-n-from c = let a = c.args in no_field a.line.now a.from (omega arith)
 
 pub returns-then-n-a : goal.returns-then-n-a
 returns-then-n-a c = let s = c.args in

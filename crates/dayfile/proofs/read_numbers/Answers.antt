@@ -1,7 +1,7 @@
 use lib.ListN.{take, drop}
 use Prim.Native.Nat.{◌-◌}
 use mathlib.Core.List.{[]}
-use mathlib.Core.Path.{◌≡◌, refl, sym, ap, ◌∙◌}
+use mathlib.Core.Path.{◌≡◌, sym, ap, ◌∙◌}
 use native.Mathlib.Nat.{add-zero}
 use native.Mathlib.Omega.{arith}
 use Rattle.numbers.specs.Numbers.{number_of}
@@ -10,9 +10,6 @@ use Rattle.dayfile.specs.Entries.{most_counts, numbers_of, good, short}
 use Rattle.dayfile.specs.Fields.{fields_from}
 use Rattle.std.specs.Prelude.{Some, None}
 use Rattle.dayfile.proofs.read_numbers.Goals as goal
-
-pub loop-at-init : goal.loop-at-init
-loop-at-init c = record { few = omega arith; counted = refl; stored = refl }
 
 pub returns-then-n-ge-MOST_COUNTS : goal.returns-then-n-ge-MOST_COUNTS
 returns-then-n-ge-MOST_COUNTS c = let l = c.loop-at in

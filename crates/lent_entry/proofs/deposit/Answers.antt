@@ -1,11 +1,10 @@
 -- `lent_entry::deposit` meets its contract: no loop; what the house did to the lists is put back where it accepts.
 use mathlib.Core.Path.{refl}
 use mathlib.Core.List.{[]}
-use Rattle.std.proofs.lemmas.Result.{err_from_is_err_and}
 use Rattle.answers.specs.Outcome.{called}
 use Rattle.entry.specs.Deposit.{deposit_act}
 use Rattle.lent.specs.Asks.{told_deposited}
-use Rattle.lent.proofs.Runs.{accepted, refused, put-none, put-signed}
+use Rattle.lent.proofs.Runs.{accepted, put-none, put-signed}
 use borrow.Author.Rules.{rules}
 use Rattle.lent_entry.proofs.deposit.Goals as goal
 
@@ -16,9 +15,3 @@ returns c =
     c.store.ensures
     (put-none 2 [])
     (put-signed _ {z = c.in_ok-balance.balance} (record { sfits = search rules }) c.write.ensures)
-
-pub returns-in_err-balance : goal.returns-in_err-balance
-returns-in_err-balance c =
-    let p = err_from_is_err_and c.from_residual.result c.from_residual.ensures.1 in
-    rw (p.1, p.2) (refused told_deposited (called (deposit_act c.args.member c.args.amount)) _
-    c.of.ensures c.deposit.ensures c.in_err-balance.was refl refl)

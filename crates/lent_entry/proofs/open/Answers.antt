@@ -1,11 +1,10 @@
 -- `lent_entry::open` meets its contract: no loop; what the house did to the lists is put back where it accepts.
 use mathlib.Core.Path.{refl}
 use mathlib.Core.List.{[]}
-use Rattle.std.proofs.lemmas.Result.{err_from_is_err_and}
 use Rattle.answers.specs.Outcome.{held}
 use Rattle.opening.specs.Open.{open_act}
 use Rattle.lent.specs.Asks.{told_opened}
-use Rattle.lent.proofs.Runs.{accepted, refused, put-none, put-signed}
+use Rattle.lent.proofs.Runs.{accepted, put-none, put-signed}
 use borrow.Author.Rules.{rules}
 use Rattle.lent_entry.proofs.open.Goals as goal
 
@@ -16,9 +15,3 @@ returns c =
     c.store.ensures
     (put-none 2 [])
     (put-signed _ {z = c.in_ok-sum.sum} (record { sfits = search rules }) c.write.ensures)
-
-pub returns-in_err-sum : goal.returns-in_err-sum
-returns-in_err-sum c =
-    let p = err_from_is_err_and c.from_residual.result c.from_residual.ensures.1 in
-    rw (p.1, p.2) (refused told_opened (held (open_act c.args.count c.args.b.now c.args.l.now)) _
-    c.of.ensures c.«open».ensures c.in_err-sum.was refl refl)

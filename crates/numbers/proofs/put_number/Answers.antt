@@ -1,11 +1,8 @@
-use Rattle.std.proofs.Common.{arith, refl, sym, ◌∙◌}
+use Rattle.std.proofs.Common.{arith, sym, ◌∙◌}
 use lib.ListN.{length-set}
 use Rattle.numbers.specs.Numbers.{width_of}
 use Rattle.numbers.proofs.Writing.{put_step, put-end, length_digits}
 use Rattle.numbers.proofs.put_number.Goals as goal
-
-pub loop-k-init : goal.loop-k-init
-loop-k-init c = (refl, rw c.width-w.ensures)
 
 pub overflow_add-out-in-loop-k : goal.overflow_add-out-in-loop-k
 overflow_add-out-in-loop-k c = omega (arith, length_digits (width_of c.args.x) c.args.x)

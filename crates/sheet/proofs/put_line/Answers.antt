@@ -4,9 +4,6 @@ use Rattle.sheet.specs.Lines.{text_of}
 use Rattle.sheet.proofs.Room.{rest_put, rest-room, wrote-within}
 use Rattle.sheet.proofs.put_line.Goals as goal
 
-pub lay_line-n-requires : goal.lay_line-n-requires
-lay_line-n-requires c = (rest-room c.args.out.now c.args.at c.requires.0, c.requires.1)
-
 pub overflow_add-result : goal.overflow_add-result
 overflow_add-result c = omega (arith, c.lay_line-n.ensures.0, wrote-within c.args.s c.requires.1 c.args.out.now c.args.at c.requires.0, c.well_formed)
 

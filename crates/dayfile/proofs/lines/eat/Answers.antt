@@ -4,9 +4,6 @@ use Rattle.dayfile.specs.Chunks.{Held, more, eat_of, state_of}
 use Rattle.dayfile.proofs.Eating.{going_on, eat-here, eat-on, eat-none, ready_at}
 use Rattle.dayfile.proofs.lines.eat.Goals as goal
 
-pub loop-k-init : goal.loop-k-init
-loop-k-init c = (omega arith, record { done = refl; place = omega arith; held = refl })
-
 pub returns-then-b-eq10-clause-ate_so : goal.returns-then-b-eq10-clause-ate_so
 returns-then-b-eq10-clause-ate_so c =
     let l = c.loop-k in

@@ -1,15 +1,10 @@
 -- `night::ending::end_line` meets its contract: no loop.
-use Rattle.night.proofs.EndLines.{left-waits, end-balance, end-money}
+use Rattle.night.proofs.EndLines.{end-balance, end-money}
 use Rattle.tables.specs.Layout.{Tables, tables}
 use Rattle.tables.proofs.Balances.{accounts-bounded}
 use Rattle.rule.proofs.Ints.{plain}
 use native.Mathlib.Omega.{arith}
 use Rattle.night.proofs.ending.end_line.Goals as goal
-
-pub waiting_of-left-requires : goal.waiting_of-left-requires
-waiting_of-left-requires c =
-    let h = c.requires.holds.counters in
-    (omega (arith, h.broad), omega (arith, h.few), (left-waits c.requires.holds c.args.k (omega arith)).some)
 
 pub returns-then-k-from : goal.returns-then-k-from
 returns-then-k-from c = let t : Tables = tables c.args.accounts.now c.args.counters.now c.args.pays.now in
