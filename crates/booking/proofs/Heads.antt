@@ -2,16 +2,21 @@
 use mathlib.Core.Path.{◌≡◌, refl, sym, ap, ◌∙◌}
 use mathlib.Core.Logic.{◌≢◌}
 use mathlib.Core.List.{List, [], ◌∷◌, ◌++◌, append_assoc}
-use Prim.Native.Nat.{ℕ, zero, suc, ◌+◌, ◌-◌, ◌≤◌, ◌<◌}
+use Prim.Native.Nat.{ℕ, zero, suc, ◌+◌, ◌-◌, ◌*◌, ◌≤◌, ◌<◌}
 use native.Mathlib.Decide.{ℕ_discrete, dec_lt}
 use native.Mathlib.Omega.{arith}
-use Rattle.std.proofs.Common.{Some, eqb}
+use Rattle.std.proofs.Common.{Option, Some, None, eqb}
 use mathlib.Core.Bool.{Bool, true, false, cond, not}
 use Rattle.std.specs.Option.{IsSome}
+use Rattle.std.specs.Simd.{first_chunks}
 use Rattle.std.specs.List.{position_or_len}
 use Rattle.std.specs.List.{position as first_place}
 use Rattle.std.proofs.lemmas.List.{drop-take}
+use Rattle.std.proofs.Math.Nat.{mul-le-mul_left}
+use Rattle.std.proofs.lemmas.Bool.Decides.{nat_tests}
+use Rattle.std.proofs.lemmas.List.Folds.{prefix_len-append}
 use Rattle.std.proofs.lemmas.List.Quantifiers.{position-Some}
+use Rattle.std.proofs.lemmas.List.Sums.{prefix_len-le-length}
 use borrow.Author.Tests.{eq-eqb, ne_eqb, eqb-true, eqb-false, lt-ltb}
 use lib.IntN.{ℤ, pos}
 use lib.ListN.{length, get_or, set, take, drop, replicate, length-take, length-drop, length-set, length-append, take-append-drop}
@@ -68,6 +73,59 @@ head-at used i k p h e =
       payer = eqb-true (payer_of (get_or p k 0)) i (rw (get_or-take used p k 0 q) at f.1);
       others = λ j l. eqb-false (payer_of (get_or p j 0)) i (rw (get_or-take used p j 0 (omega arith)) at (f.2 j l));
     }
+
+-- ---- looking for it block by block
+
+-- the first of these payments that i pays, where it pays one,
+abbrev pub first : ℕ → List ℕ → Option ℕ
+first i ws = first_place (λ w. eqb (payer_of w) i) ws
+
+-- and its place, or how many they are
+abbrev pub place : ℕ → List ℕ → ℕ
+place i ws = position_or_len (λ w. eqb (payer_of w) i) ws
+
+-- i pays none of the first n: the first that it pays is the first of the rest
+abbrev pub Behind : ℕ → ℕ → List ℕ → Type 0
+Behind i n ws = place i ws ≡ n + place i (drop n ws)
+
+parts : (i n : ℕ) (ws : List ℕ)
+    → place i ws ≡ cond (eqb (place i (take n ws)) (length (take n ws))) (length (take n ws) + place i (drop n ws)) (place i (take n ws))
+parts i n ws = ap (place i) (sym (take-append-drop n ws)) ∙ prefix_len-append (λ w. not (eqb (payer_of w) i)) (take n ws) (drop n ws)
+
+part-behind : (i n : ℕ) (ws : List ℕ) → n ≤ length ws → first i (take n ws) ≡ None → Behind i n ws
+part-behind i n ws h e =
+    grind (arith, nat_tests, parts i n ws, length-take-le n ws h, prefix_len-le-length (λ w. not (eqb (payer_of w) i)) (take n ws))
+
+part-first : (i n j : ℕ) (ws : List ℕ) → first i (take n ws) ≡ Some j → first i ws ≡ Some j
+part-first i n j ws e = grind (arith, nat_tests, parts i n ws, length-take n ws)
+
+block-part : {X : Type 0} (n m k : ℕ) (xs : List X) → k < m → get_or (first_chunks n m xs) k [] ≡ take n (drop (k * n) xs)
+block-part n zero k xs l = absurd (omega arith)
+block-part n (suc m) zero xs l = let e : 0 ≡ 0 * n = omega arith in ap (λ j. take n (drop j xs)) e
+block-part n (suc m) (suc k) xs l =
+    let e : n + k * n ≡ suc k * n = omega arith in
+    block-part n m k (drop n xs) (omega arith) ∙ ap (take n) (drop-drop (k * n) n xs ∙ ap (λ j. drop j xs) e)
+
+module _ (i n m k : ℕ) (ws : List ℕ) (l : k < m) where
+  -- a block of n that i does not pay in is passed,
+  pub block-behind : m * n ≤ length ws → Behind i (k * n) ws → first i (get_or (first_chunks n m ws) k []) ≡ None → Behind i ((k + 1) * n) ws
+  block-behind q h e =
+      let a : k * n + n ≡ (k + 1) * n = omega arith in
+      let r : n ≤ length (drop (k * n) ws) = omega (arith, length-drop (k * n) ws, mul-le-mul_left n l) in
+      let f = part-behind i n (drop (k * n) ws) r (rw (block-part n m k ws l) at e) in
+      omega (arith, h, f, ap (place i) (drop-drop n (k * n) ws ∙ ap (λ j. drop j ws) a))
+
+  -- the first that it pays in a block is the first of the rest,
+  pub block-first : (j : ℕ) → first i (get_or (first_chunks n m ws) k []) ≡ Some j → first i (drop (k * n) ws) ≡ Some j
+  block-first j e = part-first i n j (drop (k * n) ws) (rw (block-part n m k ws l) at e)
+
+module _ (i n : ℕ) (ws : List ℕ) (h : Behind i n ws) where
+  -- and the first of the rest, where there is one, is the first of all
+  pub rest-found : IsSome (first i ws) → IsSome (first i (drop n ws))
+  rest-found e = grind (arith, nat_tests, length-drop n ws)
+
+  pub rest-first : (j : ℕ) → first i (drop n ws) ≡ Some j → first i ws ≡ Some (n + j)
+  rest-first j e = grind (arith, nat_tests, length-drop n ws)
 
 -- ---- what leaves, and what stays
 
