@@ -14,8 +14,8 @@ use lib.Seq.{take-suc, length-take-le, get_or-set_same, get_or-set_other}
 use borrow.Author.Tests.{lt-ltb, le-ltb}
 use Rattle.rule.specs.Payment.{payer_of}
 use Rattle.rule.specs.House.{position, LargestSet}
-use Rattle.rule.specs.Table.{queue_of, leaving}
-use Rattle.rule.proofs.Table.{queue-leaving, leaving-snoc}
+use Rattle.rule.specs.Table.{queue_of, leaving, staying}
+use Rattle.rule.proofs.Table.{queue-leaving, leaving-snoc, staying-snoc}
 use Rattle.rule.proofs.Sums.{eqb_same, eqb-other}
 use Rattle.rule.proofs.Kernel.{largest-cong}
 use Rattle.rule.proofs.Cover.{covered-lawful, position-cong}
@@ -37,10 +37,15 @@ module _ (pays tops : List ℕ) (m : ℕ) (h : m < length pays) where
             (le-ltb (length (queue_of s (take m pays))) (length (queue_of s (take t pays))) (queue-grows pays m s t (omega arith)))
       ]
 
-  -- the payment at place m leaves if it stands below the top
+  -- the payment at place m leaves if it stands below the top,
   pub leaves-next : leaving (counts_of pays tops) (take (m + 1) pays)
       ≡ leaving (counts_of pays tops) (take m pays) ++ cond (ltb m (get_or tops (payer_of (get_or pays m 0)) 0)) (get_or pays m 0 ∷ []) []
   leaves-next = rw (add-one, take-suc pays m 0 h, leaving-snoc (take m pays) (get_or pays m 0) (counts_of pays tops), below-is)
+
+  -- and stays if it does not
+  pub stays-next : staying (counts_of pays tops) (take (m + 1) pays)
+      ≡ staying (counts_of pays tops) (take m pays) ++ cond (ltb m (get_or tops (payer_of (get_or pays m 0)) 0)) [] (get_or pays m 0 ∷ [])
+  stays-next = rw (add-one, take-suc pays m 0 h, staying-snoc (take m pays) (get_or pays m 0) (counts_of pays tops), below-is)
 
 -- ---- the counts, place by place
 
