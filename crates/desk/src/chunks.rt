@@ -7,14 +7,16 @@ ghost use Rattle.desk.specs.Desk.{eat_turn};
 ghost use Rattle.desk.specs.States.{desk_of, Grown, Fit};
 
 use crate::lines::line_on;
-use crate::{Buffers, State, Turn};
-use dayfile::lines::Cut;
+use crate::{State, Turn};
+use dayfile::MOST_COUNTS;
+use dayfile::lines::{Cut, MOST_BYTES};
 
 // The next line of a chunk, or what is left of the chunk. A line that stands in the chunk as a whole is read there.
 pub fn eat_on(
     chunk: &[u8],
     from: usize,
-    buffers: &mut Buffers,
+    buf: &mut [u8; MOST_BYTES],
+    counts: &mut [u64; MOST_COUNTS],
     accounts: &mut [i64],
     counters: &mut [u32],
     pays: &mut [u64],
@@ -23,11 +25,11 @@ pub fn eat_on(
 ) -> Turn
     requires fit { Fit s (tables accounts.old counters.old pays.old) (length out.old) × (is_over s.stage ≡ false) }
     requires lengths { (from < length chunk.now) × (s.used + least_room ≤ length out.old) }
-    ensures turn { desk_of (drop result.at chunk.now) result.state (tables accounts.new counters.new pays.new) out.new buffers.new.line ≡ eat_turn (desk_of (drop from chunk.now) s (tables accounts.old counters.old pays.old) out.old buffers.old.line) }
+    ensures turn { desk_of (drop result.at chunk.now) result.state (tables accounts.new counters.new pays.new) out.new buf.new ≡ eat_turn (desk_of (drop from chunk.now) s (tables accounts.old counters.old pays.old) out.old buf.old) }
     ensures fits { Fit result.state (tables accounts.new counters.new pays.new) (length out.old) × (from < result.at) × (result.at ≤ length chunk.now) × Grown s.used result.state.used out.old out.new }
 {
     let Some(e) = dayfile::lines::whole(chunk, from, s.cut) else {
-        return part_on(chunk, from, buffers, accounts, counters, pays, out, s);
+        return part_on(chunk, from, buf, counts, accounts, counters, pays, out, s);
     };
     let cut = Cut {
         held: e - from,
@@ -35,7 +37,7 @@ pub fn eat_on(
     };
     let state = line_on(
         &chunk[from..e],
-        &mut buffers.counts,
+        counts,
         accounts,
         counters,
         pays,
@@ -49,7 +51,8 @@ pub fn eat_on(
 fn part_on(
     chunk: &[u8],
     from: usize,
-    buffers: &mut Buffers,
+    buf: &mut [u8; MOST_BYTES],
+    counts: &mut [u64; MOST_COUNTS],
     accounts: &mut [i64],
     counters: &mut [u32],
     pays: &mut [u64],
@@ -58,21 +61,13 @@ fn part_on(
 ) -> Turn
     requires fit { Fit s (tables accounts.old counters.old pays.old) (length out.old) × (is_over s.stage ≡ false) }
     requires lengths { (from < length chunk.now) × (s.used + least_room ≤ length out.old) }
-    ensures turn { desk_of (drop result.at chunk.now) result.state (tables accounts.new counters.new pays.new) out.new buffers.new.line ≡ eat_turn (desk_of (drop from chunk.now) s (tables accounts.old counters.old pays.old) out.old buffers.old.line) }
+    ensures turn { desk_of (drop result.at chunk.now) result.state (tables accounts.new counters.new pays.new) out.new buf.new ≡ eat_turn (desk_of (drop from chunk.now) s (tables accounts.old counters.old pays.old) out.old buf.old) }
     ensures fits { Fit result.state (tables accounts.new counters.new pays.new) (length out.old) × (from < result.at) × (result.at ≤ length chunk.now) × Grown s.used result.state.used out.old out.new }
 {
-    let a = dayfile::lines::eat(chunk, from, &mut buffers.line, s.cut);
+    let a = dayfile::lines::eat(chunk, from, buf, s.cut);
     let t = State { cut: a.cut, ..s };
     if a.is_done {
-        let state = line_on(
-            &buffers.line,
-            &mut buffers.counts,
-            accounts,
-            counters,
-            pays,
-            out,
-            t,
-        );
+        let state = line_on(buf, counts, accounts, counters, pays, out, t);
         return Turn { at: a.at, state };
     }
     Turn { at: a.at, state: t }

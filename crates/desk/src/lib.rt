@@ -11,16 +11,8 @@ mod out;
 ghost use Rattle.std.specs.Prelude.{◌≡◌};
 ghost use Rattle.desk.specs.States.{state_at};
 
-use dayfile::MOST_COUNTS;
-use dayfile::lines::{Cut, MOST_BYTES};
+use dayfile::lines::Cut;
 use night::Stage;
-
-// Memory for the line that is read: its bytes, while it is not ended, and the counts of a group.
-#[derive(Drop)]
-pub struct Buffers {
-    pub line: [u8; MOST_BYTES],
-    pub counts: [u64; MOST_COUNTS],
-}
 
 // The night between lines: lines read, where it stands, bytes of the output used, and what is held of the next line.
 #[derive(Clone, Copy)]

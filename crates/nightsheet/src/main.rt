@@ -1,7 +1,6 @@
 // Reads a day file on standard input and writes its sheet on standard output.
 #![tactic(auto)]
 
-use desk::Buffers;
 use nightloop::Streams;
 use std::env::{Env, FillError};
 use std::io::{Stderr, Write};
@@ -34,10 +33,8 @@ fn tell_usage(errors: Stderr) {
 // One night, from the first line to the last.
 fn night(streams: Streams) {
     let mut chunk = [0u8; nightloop::OUT];
-    let mut buffers = Buffers {
-        line: [0u8; dayfile::lines::MOST_BYTES],
-        counts: [0u64; dayfile::MOST_COUNTS],
-    };
+    let mut buf = [0u8; dayfile::lines::MOST_BYTES];
+    let mut counts = [0u64; dayfile::MOST_COUNTS];
     let mut accounts = [0i64; House::TABLE];
     let mut counters = [0u32; House::TABLE];
     let mut pays = [0u64; House::PLACES];
@@ -45,7 +42,8 @@ fn night(streams: Streams) {
     nightloop::whole(
         streams,
         &mut chunk,
-        &mut buffers,
+        &mut buf,
+        &mut counts,
         &mut accounts,
         &mut counters,
         &mut pays,

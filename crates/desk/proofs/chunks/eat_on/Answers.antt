@@ -11,9 +11,9 @@ returns-clause-turn c =
     let e = c.in-Some.e in
     let inside = c.in-Some.ensures.0 in
     let there : WholeAt a.chunk.now a.from a.s.cut e = c.in-Some.ensures.1 in
-    let found : eat_of (drop a.from a.chunk.now) (state_of a.buffers.now.line a.s.cut)
+    let found : eat_of (drop a.from a.chunk.now) (state_of a.buf.now a.s.cut)
     ≡ record { done = true; used = e - a.from + 1; held = record { bytes = take (e - a.from) (drop a.from a.chunk.now); over = false } }
-    = ap (λ (h : Held). eat_of (drop a.from a.chunk.now) h) (there.none_held a.buffers.now.line) ∙ there.eaten in
+    = ap (λ (h : Held). eat_of (drop a.from a.chunk.now) h) (there.none_held a.buf.now) ∙ there.eaten in
     let at : a.from + (e - a.from + 1) ≡ e + 1 = omega (arith, there.start) in
     let bytes = take_all (e - a.from) (take (e - a.from) (drop a.from a.chunk.now)) (omega (arith, length-take-le (e - a.from) (drop a.from a.chunk.now), length-drop a.from a.chunk.now)) in
     rw (found, drop-drop, at) (search (rules, bytes))

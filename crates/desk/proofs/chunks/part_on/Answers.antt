@@ -9,7 +9,7 @@ returns-then-a-clause-fits c =
     let a = c.eat-a in
     let d = c.line_on-state in (
       d.ensures.fits.0,
-      eat-more c.args.chunk.now c.args.from (state_of c.args.buffers.now.line c.args.s.cut) a.result.at a.ensures.ate_so.place c.requires.lengths.0,
+      eat-more c.args.chunk.now c.args.from (state_of c.args.buf.now c.args.s.cut) a.result.at a.ensures.ate_so.place c.requires.lengths.0,
       a.ensures.at_in_bounds.0,
       d.ensures.fits.2,
     )
@@ -19,7 +19,7 @@ returns-clause-fits c =
     let a = c.eat-a in
     let f = c.requires.fit.0 in (
       record { few = f.few; room = f.room; held = a.ensures.at_in_bounds.1; stands = f.stands },
-      eat-more c.args.chunk.now c.args.from (state_of c.args.buffers.now.line c.args.s.cut) a.result.at a.ensures.ate_so.place c.requires.lengths.0,
+      eat-more c.args.chunk.now c.args.from (state_of c.args.buf.now c.args.s.cut) a.result.at a.ensures.ate_so.place c.requires.lengths.0,
       a.ensures.at_in_bounds.0,
       grown-none c.args.s.used c.args.out.now,
     )

@@ -7,7 +7,7 @@ use Rattle.session.proofs.turns.last_on.Goals as goal
 
 pub returns-then-s-gt0-clause-out_after : goal.returns-then-s-gt0-clause-out_after
 returns-then-s-gt0-clause-out_after c = let t : Tables = tables c.args.accounts.now c.args.counters.now c.args.pays.now in
-    c.line_on.ensures.out_after ∙ last_line c.args.s t c.args.out.now c.args.buffers.now.line c.if-s-gt0.true (omega (arith, c.requires.fit.0.held))
+    c.line_on.ensures.out_after ∙ last_line c.args.s t c.args.out.now c.args.buf.now c.if-s-gt0.true (omega (arith, c.requires.fit.0.held))
 
 pub returns-then-s-gt0-clause-fits : goal.returns-then-s-gt0-clause-fits
 returns-then-s-gt0-clause-fits c = let r = c.line_on in (
