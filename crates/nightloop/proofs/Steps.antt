@@ -9,7 +9,9 @@ use borrow.Author.Tests.{leb-true}
 use lib.Dec.{ltb}
 use lib.ListN.{length, take, drop}
 use lib.Seq.{length-take-le}
-use Rattle.std.specs.Prelude.{Option, Some, None, IfSome}
+use Rattle.std.specs.Prelude.{Option, Some, None, IfSome, Result, Ok, Err}
+use Rattle.std.specs.Io.{ReadsAtMost}
+use Rattle.std.specs.Result.{result_ok}
 use Rattle.sheet.specs.Room.{least_room, has_room}
 use Rattle.tables.specs.Layout.{Tables}
 use Rattle.desk.specs.declared.State.{State}
@@ -33,7 +35,7 @@ use Rattle.nightloop.specs.Steps.{out_bytes, Memory, rest_in, desk_in, CanGo, ru
 abbrev first : Run
 first = run_of N.Read 0 dawn
 
-ready-first : {chunk : List ℕ} {t : Tables} → Memory t → CanGo first chunk t
+ready-first : {chunk buf counts out : List ℕ} {t : Tables} → Memory chunk buf counts t out → CanGo first chunk t
 ready-first m = record {
   fit = record { few = omega arith; room = omega arith; held = omega arith; stands = record { long = omega arith; broad = omega arith; deep = omega arith } };
   clear = refl;
@@ -42,7 +44,7 @@ ready-first m = record {
 }
 
 -- nothing was read, and nothing written
-pub stood-first : {chunk buf out : List ℕ} {t : Tables} → Memory t → t ≡ morning.tables → SoFar N.Read first chunk buf t out
+pub stood-first : {chunk buf counts out : List ℕ} {t : Tables} → Memory chunk buf counts t out → t ≡ morning.tables → SoFar N.Read first chunk buf t out
 stood-first {chunk} {buf} {out = out} {t = t} m e = (
   record {
     read = [];
@@ -54,6 +56,11 @@ stood-first {chunk} {buf} {out = out} {t = t} m e = (
 )
 
 -- ---- a chunk is read
+
+-- a read puts no more bytes into the chunk than it holds
+pub read-within : {E : Type 0} (got : Result ℕ E) (chunk : List ℕ) → ReadsAtMost got chunk → IfSome (result_ok got) (λ k. k ≤ length chunk)
+read-within (Ok n) chunk h = h.0
+read-within (Err e) chunk h = tt
 
 module _ {chunk buf out : List ℕ} {t : Tables} (chunk₁ : List ℕ) {r : Run} where
   handed-on : (n : ℕ) → n ≤ length chunk₁ → SoFar N.Read r chunk buf t out → Open (run_of N.Eat n r.state) chunk₁ buf t out

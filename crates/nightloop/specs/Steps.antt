@@ -1,6 +1,8 @@
 -- The program's steps, and what they make of a session of the night (session/specs/Session.antt): which bytes were read and handed on, and
 -- which were written out. r is where the program stood before a step and x where it stands after it; t are the tables.
 use Rattle.std.specs.Prelude.{◌≡◌, Bool, true, false, cond, List, [], ◌++◌, ◌⊎◌, ℕ, ◌≤◌, ltb, length, take, drop, Option, Some, None, IfSome}
+use Rattle.dayfile.specs.Lines.{most_bytes}
+use Rattle.dayfile.specs.Entries.{most_counts}
 use Rattle.sheet.specs.Room.{has_room}
 use Rattle.tables.specs.Sizes.{places, table}
 use Rattle.tables.specs.Layout.{Tables}
@@ -21,11 +23,15 @@ use Rattle.nightloop.specs.declared.Run.{Run}
 abbrev pub out_bytes : ℕ
 out_bytes = 4096
 
--- the tables are as long as they have to be; the chunk, the line buffer, the counts of a group and the output are by their types
-pub record Memory (t : Tables) : Type 0 where
+-- the chunk, the line buffer, the counts of a group, the tables and the output
+pub record Memory (chunk buf counts : List ℕ) (t : Tables) (out : List ℕ) : Type 0 where
+  pub bytes : length chunk ≡ out_bytes
+  pub line : length buf ≡ most_bytes
+  pub slots : length counts ≡ most_counts
   pub accounts : length t.accounts ≡ table
   pub counters : length t.counters ≡ table
   pub pays : length t.pays ≡ places
+  pub long : length out ≡ out_bytes
 
 -- the bytes that were read and are not eaten
 abbrev pub rest_in : Run → List ℕ → List ℕ

@@ -4,11 +4,14 @@
 
 ghost use Rattle.std.specs.Prelude.{◌≡◌, ◌≤◌, length, take};
 ghost use Rattle.std.specs.Io.{ReadsAtMost};
+ghost use Rattle.std.specs.Result.{result_ok};
 ghost use Rattle.tables.specs.Layout.{tables};
 ghost use Rattle.desk.specs.Sheet.{morning};
-ghost use Rattle.nightloop.specs.Steps.{out_bytes, Memory, CanGo, goes_on_from, run_of, Took, fed_next, closed_next, Wrote, desk_in, Ate, Closed, SoFar};
+ghost use Rattle.nightloop.specs.Steps.{out_bytes, Memory, CanGo, goes_on_from, run_of, taken_as, Took, fed_next, closed_next, Wrote, desk_in, Ate, Closed, SoFar};
 
-use desk::{Buffers, State};
+use dayfile::MOST_COUNTS;
+use dayfile::lines::MOST_BYTES;
+use desk::State;
 use night::Stage;
 use std::io::{self, Read, Stderr, Stdin, Stdout, Write};
 
@@ -44,26 +47,61 @@ pub struct Run {
     pub state: State,
 }
 
-// The whole night, step by step, from the input to the output. A proved loop has to end, and nothing says that the input does: so steps are
-// counted.
+// The whole night, step by step, from the input to the output.
 pub fn whole(
     streams: Streams,
+    chunk: &mut [u8],
+    buf: &mut [u8],
+    counts: &mut [u64],
+    accounts: &mut [i64],
+    counters: &mut [u32],
+    pays: &mut [u64],
+    out: &mut [u8],
+) -> Run
+    requires { Memory chunk.old buf.old counts.old (tables accounts.old counters.old pays.old) out.old × (tables accounts.old counters.old pays.old ≡ morning.tables) }
+    ensures { SoFar result.next result chunk.new buf.new (tables accounts.new counters.new pays.new) out.new }
+{
+    let Some(chunk) = chunk.as_mut_array() else {
+        unreachable!()
+    };
+    let Some(buf) = buf.as_mut_array() else {
+        unreachable!()
+    };
+    let Some(counts) = counts.as_mut_array() else {
+        unreachable!()
+    };
+    let Some(out) = out.as_mut_array() else {
+        unreachable!()
+    };
+    let r = run_of(Next::Read, 0, session::start());
+    all_steps(
+        streams, chunk, buf, counts, accounts, counters, pays, out, r,
+    )
+}
+
+// Step after step, while one follows. A proved loop has to end, and nothing says that the input does: so steps are counted.
+fn all_steps(
+    streams: Streams,
     chunk: &mut [u8; OUT],
-    buffers: &mut Buffers,
+    buf: &mut [u8; MOST_BYTES],
+    counts: &mut [u64; MOST_COUNTS],
     accounts: &mut [i64],
     counters: &mut [u32],
     pays: &mut [u64],
     out: &mut [u8; OUT],
+    r: Run,
 ) -> Run
-    requires { Memory (tables accounts.old counters.old pays.old) × (tables accounts.old counters.old pays.old ≡ morning.tables) }
-    ensures { SoFar result.next result chunk.new buffers.new.line (tables accounts.new counters.new pays.new) out.new }
+    requires { SoFar r.next r chunk.old buf.old (tables accounts.old counters.old pays.old) out.old }
+    ensures { SoFar result.next result chunk.new buf.new (tables accounts.new counters.new pays.new) out.new }
 {
-    let mut r = run_of(Next::Read, 0, session::start());
+    let mut r = r;
     'steps: for _ in 0..u64::MAX {
         if !goes_on(r.next) {
             break;
         }
-        r = step(streams, chunk, buffers, accounts, counters, pays, out, r);
+        r = step(
+            streams, chunk, buf, counts, accounts, counters, pays, out, r,
+        );
     }
     r
 }
@@ -95,34 +133,47 @@ fn run_of(next: Next, got: usize, state: State) -> Run
 fn step(
     streams: Streams,
     chunk: &mut [u8; OUT],
-    buffers: &mut Buffers,
+    buf: &mut [u8; MOST_BYTES],
+    counts: &mut [u64; MOST_COUNTS],
     accounts: &mut [i64],
     counters: &mut [u32],
     pays: &mut [u64],
     out: &mut [u8; OUT],
     r: Run,
 ) -> Run
-    requires { SoFar r.next r chunk.old buffers.old.line (tables accounts.old counters.old pays.old) out.old }
-    ensures { SoFar result.next result chunk.new buffers.new.line (tables accounts.new counters.new pays.new) out.new }
+    requires { SoFar r.next r chunk.old buf.old (tables accounts.old counters.old pays.old) out.old }
+    ensures { SoFar result.next result chunk.new buf.new (tables accounts.new counters.new pays.new) out.new }
 {
     match r.next {
         Next::Read => read_on(streams, chunk, r),
-        Next::Eat => eat_on(streams, chunk, buffers, accounts, counters, pays, out, r),
-        Next::Close => close_on(streams, chunk, buffers, accounts, counters, pays, out, r),
+        Next::Eat => eat_on(
+            streams, chunk, buf, counts, accounts, counters, pays, out, r,
+        ),
+        Next::Close => close_on(
+            streams, chunk, buf, counts, accounts, counters, pays, out, r,
+        ),
         Next::Done | Next::Failed => r,
     }
 }
 
-// Reads a chunk: its bytes are eaten next, or the input is at its end, or reading failed.
+// Reads a chunk: what the read answered and put there comes next.
 fn read_on(streams: Streams, chunk: &mut [u8; OUT], r: Run) -> Run
     ensures { Took result r.state (length chunk.new) }
 {
-    match read(streams, chunk) {
-        Ok(0) => run_of(Next::Close, 0, r.state),
-        Ok(n) => run_of(Next::Eat, n, r.state),
+    let got = read(streams, chunk);
+    taken(streams, got, r.state)
+}
+
+// A read was answered: the bytes that it put at the start of the chunk are eaten next, or the input is at its end, or reading failed.
+fn taken(streams: Streams, got: io::Result<usize>, s: State) -> Run
+    ensures { result ≡ taken_as (result_ok got) s }
+{
+    match got {
+        Ok(n) if n > 0 => run_of(Next::Eat, n, s),
+        Ok(_) => run_of(Next::Close, 0, s),
         Err(_) => {
             complain(streams, b"nightsheet: cannot read\n");
-            run_of(Next::Failed, 0, r.state)
+            run_of(Next::Failed, 0, s)
         }
     }
 }
@@ -139,7 +190,8 @@ fn read(streams: Streams, chunk: &mut [u8]) -> io::Result<usize>
 fn eat_on(
     streams: Streams,
     chunk: &[u8; OUT],
-    buffers: &mut Buffers,
+    buf: &mut [u8; MOST_BYTES],
+    counts: &mut [u64; MOST_COUNTS],
     accounts: &mut [i64],
     counters: &mut [u32],
     pays: &mut [u64],
@@ -147,12 +199,13 @@ fn eat_on(
     r: Run,
 ) -> Run
     requires { CanGo r chunk.now (tables accounts.old counters.old pays.old) }
-    ensures { Ate (desk_in r chunk.now buffers.old.line (tables accounts.old counters.old pays.old) out.old) result chunk.now buffers.new.line (tables accounts.new counters.new pays.new) out.new }
+    ensures { Ate (desk_in r chunk.now buf.old (tables accounts.old counters.old pays.old) out.old) result chunk.now buf.new (tables accounts.new counters.new pays.new) out.new }
 {
     let t = session::feed(
         &chunk[..r.got],
         r.at,
-        buffers,
+        buf,
+        counts,
         accounts,
         counters,
         pays,
@@ -186,7 +239,8 @@ fn fed_next(s: State) -> Next
 fn close_on(
     streams: Streams,
     chunk: &[u8; OUT],
-    buffers: &mut Buffers,
+    buf: &[u8; MOST_BYTES],
+    counts: &mut [u64; MOST_COUNTS],
     accounts: &mut [i64],
     counters: &mut [u32],
     pays: &mut [u64],
@@ -194,9 +248,9 @@ fn close_on(
     r: Run,
 ) -> Run
     requires { CanGo r chunk.now (tables accounts.old counters.old pays.old) }
-    ensures { Closed (desk_in r chunk.now buffers.old.line (tables accounts.old counters.old pays.old) out.old) result chunk.now buffers.new.line (tables accounts.new counters.new pays.new) out.new }
+    ensures { Closed (desk_in r chunk.now buf.now (tables accounts.old counters.old pays.old) out.old) result chunk.now buf.now (tables accounts.new counters.new pays.new) out.new }
 {
-    let state = session::close(buffers, accounts, counters, pays, out, r.state);
+    let state = session::close(buf, counts, accounts, counters, pays, out, r.state);
     let e = Run {
         next: closed_next(state),
         state,

@@ -11,7 +11,7 @@ returns-in-Read c =
     let t : Tables = tables c.args.accounts.now c.args.counters.now c.args.pays.now in
     let b = c.read_on.new.chunk in
     let k = c.read_on.ensures in
-    subst (λ (x : Run). SoFar x.next x b c.args.buffers.now.line t c.args.out.now) (sym k.is)
+    subst (λ (x : Run). SoFar x.next x b c.args.buf.now t c.args.out.now) (sym k.is)
     (stood-taken b k.got k.within (rw c.in-Read.is at c.requires))
 
 pub returns-in-Eat : goal.returns-in-Eat

@@ -1,5 +1,8 @@
+-- `nightloop::whole` meets its contract: before the first step nothing was read, and nothing written.
 use Rattle.nightloop.proofs.Steps.{stood-first}
 use Rattle.nightloop.proofs.whole.Goals as goal
 
-pub steps-init : goal.steps-init
-steps-init c = rw (c.run_of-r.ensures, c.start.ensures) (stood-first c.requires.0 c.requires.1)
+pub all_steps-requires : goal.all_steps-requires
+all_steps-requires c =
+    rw (c.run_of-r.ensures, c.start.ensures, c.in-Some.ensures.cases.same, c.in-Some-as_mut_array.ensures.cases.same, c.in-Some-as_mut_array-3.ensures.cases.same)
+    (stood-first c.requires.0 c.requires.1)

@@ -1,8 +1,0 @@
--- `nightloop::whole` meets its contract: the invariant: the session so far.
-use Rattle.nightloop.specs.Steps.{SoFar}
-use Rattle.tables.specs.Layout.{tables}
-use Rattle.nightloop.proofs.whole.Given as goal
-
-abbrev pub invariant-steps : goal.invariant-steps
-invariant-steps l =
-    SoFar l.r.next l.r l.chunk l.buffers.line (tables l.accounts l.counters l.pays) l.out
