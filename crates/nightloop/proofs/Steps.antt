@@ -7,16 +7,19 @@ use Prim.Native.Nat.{ℕ, ◌+◌, ◌≤◌}
 use native.Mathlib.Omega.{arith}
 use borrow.Author.Tests.{leb-true}
 use lib.Dec.{ltb}
-use lib.ListN.{length, take, drop}
+use lib.IntN.{pos}
+use lib.ListN.{length, replicate, take, drop, length-replicate}
 use lib.Seq.{length-take-le}
 use Rattle.std.specs.Prelude.{Option, Some, None, IfSome, Result, Ok, Err}
 use Rattle.std.specs.Io.{ReadsAtMost}
 use Rattle.std.specs.Result.{result_ok}
 use Rattle.sheet.specs.Room.{least_room, has_room}
+use Rattle.tables.specs.Sizes.{places, table}
 use Rattle.tables.specs.Layout.{Tables}
 use Rattle.desk.specs.declared.State.{State}
 use Rattle.desk.specs.declared.Turn.{Turn}
 use Rattle.night.specs.Stages.{is_over}
+use Rattle.night.specs.Stands.{Sized}
 use Rattle.desk.specs.Sheet.{morning}
 use Rattle.session.specs.Stops.{Stops}
 use Rattle.desk.specs.Desk.{Desk}
@@ -28,29 +31,37 @@ use Rattle.session.proofs.Theorem.{session-sheet, feed-whole}
 use Rattle.nightloop.specs.declared.Next.{Next}
 use Rattle.nightloop.specs.declared.Next.TheVariants as N
 use Rattle.nightloop.specs.declared.Run.{Run}
-use Rattle.nightloop.specs.Steps.{out_bytes, Memory, rest_in, desk_in, CanGo, run_of, taken_as, fed_next, closed_next, flushed_of, Wrote, AteTo, Ate, ClosedTo, Closed, Open, Shut, Finished, SoFar}
+use Rattle.nightloop.specs.Steps.{out_bytes, rest_in, desk_in, CanGo, run_of, taken_as, fed_next, closed_next, flushed_of, Wrote, AteTo, Ate, ClosedTo, Closed, Open, Shut, Finished, SoFar}
 
 -- ---- before the first step
 
 abbrev first : Run
 first = run_of N.Read 0 dawn
 
-ready-first : {chunk buf counts out : List ℕ} {t : Tables} → Memory chunk buf counts t out → CanGo first chunk t
-ready-first m = record {
-  fit = record { few = omega arith; room = omega arith; held = omega arith; stands = record { long = omega arith; broad = omega arith; deep = omega arith } };
+ready-first : {chunk : List ℕ} {t : Tables} → Sized t → CanGo first chunk t
+ready-first z = record {
+  fit = record { few = omega arith; room = omega arith; held = omega arith; stands = z };
   clear = refl;
   eaten = omega arith;
   read = omega arith;
 }
 
--- nothing was read, and nothing written
-pub stood-first : {chunk buf counts out : List ℕ} {t : Tables} → Memory chunk buf counts t out → t ≡ morning.tables → SoFar N.Read first chunk buf t out
-stood-first {chunk} {buf} {out = out} {t = t} m e = (
+-- n times the same is long enough for n
+filled : {A : Type 0} (n : ℕ) (a : A) → n ≤ length (replicate n a)
+filled n a = omega (arith, length-replicate n a)
+
+-- the tables of the morning are long enough
+sized-first : Sized morning.tables
+sized-first = record { long = filled table (pos 0); broad = filled {A = ℕ} table 0; deep = filled {A = ℕ} places 0 }
+
+-- nothing was read, and nothing written, whatever the memory holds
+pub stood-first : {chunk buf out : List ℕ} {t : Tables} → t ≡ morning.tables → SoFar N.Read first chunk buf t out
+stood-first {chunk} {buf} {out = out} {t = t} e = (
   record {
     read = [];
     said = [];
     session = λ later. subst (λ (u : Tables). Session later [] (desk_in first chunk buf u out) later) (sym e) begun;
-    ready = ready-first m;
+    ready = ready-first (subst Sized (sym e) sized-first);
   },
   refl,
 )

@@ -5,4 +5,4 @@ use Rattle.nightloop.proofs.whole.Goals as goal
 pub all_steps-requires : goal.all_steps-requires
 all_steps-requires c =
     rw (c.run_of-r.ensures, c.start.ensures, c.in-Some.ensures.cases.same, c.in-Some-as_mut_array.ensures.cases.same, c.in-Some-as_mut_array-3.ensures.cases.same)
-    (stood-first c.requires.0 c.requires.1)
+    (stood-first c.requires.1)
