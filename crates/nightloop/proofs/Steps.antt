@@ -46,7 +46,7 @@ ready-first z = record {
   read = omega arith;
 }
 
--- n times the same is long enough for n
+-- n times the same is a list of at least n
 filled : {A : Type 0} (n : ℕ) (a : A) → n ≤ length (replicate n a)
 filled n a = omega (arith, length-replicate n a)
 
