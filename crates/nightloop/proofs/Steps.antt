@@ -7,20 +7,19 @@ use Prim.Native.Nat.{ℕ, ◌+◌, ◌≤◌}
 use native.Mathlib.Omega.{arith}
 use borrow.Author.Tests.{leb-true}
 use lib.Dec.{ltb}
-use lib.IntN.{pos}
-use lib.ListN.{length, replicate, take, drop, length-replicate}
+use lib.ListN.{length, take, drop}
 use lib.Seq.{length-take-le}
 use Rattle.std.specs.Prelude.{Option, Some, None, IfSome, Result, Ok, Err}
 use Rattle.std.specs.Io.{ReadsAtMost}
 use Rattle.std.specs.Result.{result_ok}
 use Rattle.sheet.specs.Room.{least_room, has_room}
-use Rattle.tables.specs.Sizes.{places, table}
 use Rattle.tables.specs.Layout.{Tables}
 use Rattle.desk.specs.declared.State.{State}
 use Rattle.desk.specs.declared.Turn.{Turn}
 use Rattle.night.specs.Stages.{is_over}
 use Rattle.night.specs.Stands.{Sized}
 use Rattle.desk.specs.Sheet.{morning}
+use Rattle.desk.proofs.Morning.{morning-sized}
 use Rattle.session.specs.Stops.{Stops}
 use Rattle.desk.specs.Desk.{Desk}
 use Rattle.session.specs.Turns.{turn_of, goes_on, close_turn, closes_on}
@@ -35,9 +34,11 @@ use Rattle.nightloop.specs.Steps.{out_bytes, rest_in, desk_in, CanGo, run_of, ta
 
 -- ---- before the first step
 
+-- where the program begins
 abbrev first : Run
 first = run_of N.Read 0 dawn
 
+-- with tables that are long enough a step can be taken there
 ready-first : {chunk : List ℕ} {t : Tables} → Sized t → CanGo first chunk t
 ready-first z = record {
   fit = record { few = omega arith; room = omega arith; held = omega arith; stands = z };
@@ -46,14 +47,6 @@ ready-first z = record {
   read = omega arith;
 }
 
--- n times the same is a list of at least n
-filled : {A : Type 0} (n : ℕ) (a : A) → n ≤ length (replicate n a)
-filled n a = omega (arith, length-replicate n a)
-
--- the tables of the morning are long enough
-sized-first : Sized morning.tables
-sized-first = record { long = filled table (pos 0); broad = filled {A = ℕ} table 0; deep = filled {A = ℕ} places 0 }
-
 -- nothing was read, and nothing written, whatever the memory holds
 pub stood-first : {chunk buf out : List ℕ} {t : Tables} → t ≡ morning.tables → SoFar N.Read first chunk buf t out
 stood-first {chunk} {buf} {out = out} {t = t} e = (
@@ -61,7 +54,7 @@ stood-first {chunk} {buf} {out = out} {t = t} e = (
     read = [];
     said = [];
     session = λ later. subst (λ (u : Tables). Session later [] (desk_in first chunk buf u out) later) (sym e) begun;
-    ready = ready-first (subst Sized (sym e) sized-first);
+    ready = ready-first (subst Sized (sym e) morning-sized);
   },
   refl,
 )

@@ -8,9 +8,9 @@ use native.Mathlib.Numerals.{add-one}
 use borrow.Author.Tests.{leb-true, ltb-true, ltb-false}
 use lib.Dec.{eqb, leb, ltb}
 use lib.IntN.{ℤ, pos}
-use lib.ListN.{length, take, drop, set, length-set, length-drop, length-replicate}
+use lib.ListN.{length, take, drop, set, length-set, length-drop}
 use lib.Seq.{take-suc-set, take-set-le, drop-set-lt, drop-set-add}
-use Rattle.tables.specs.Sizes.{members, places, table}
+use Rattle.tables.specs.Sizes.{members}
 use Rattle.tables.specs.Layout.{Tables, lines_at}
 use Rattle.tables.proofs.Tests.{and_both}
 use Rattle.answers.specs.Outcome.{Outcome, outcome, held}
@@ -31,6 +31,7 @@ use Rattle.night.specs.Stands.{Sized, Giving}
 use Rattle.dayfile.specs.Entries.{most_lines, Entry}
 use Rattle.night.specs.Stages.{said_all, is_over}
 use Rattle.desk.specs.Sheet.{Night, entry_in, after_line, stopped, step_of, morning}
+use Rattle.desk.proofs.Morning.{morning-sized}
 use Rattle.days.specs.Days.{Begun}
 use Rattle.nights.specs.Files.{balance_given, credit_of, balances_in, credits_in, members_of, night_after, Opens, opened_by}
 use Rattle.nights.proofs.Runs.{run_join}
@@ -242,15 +243,7 @@ credits-join [] x = append-nil (credit_of (entry_in x))
 credits-join (y ∷ ls) x = ap (λ (r : List ℤ). credit_of (entry_in y) ++ r) (credits-join ls x) ∙ sym (append_assoc (credit_of (entry_in y)) (credits_in ls) (credit_of (entry_in x)))
 
 morning-gave : Gave G.House morning.tables [] []
-morning-gave = record {
-  sized = record {
-    long = rw (length-replicate table (pos 0)) (omega arith);
-    broad = rw (length-replicate {A = ℕ} table 0) (omega arith);
-    deep = rw (length-replicate {A = ℕ} places 0) (omega arith);
-  };
-  balances = refl;
-  lines = refl;
-}
+morning-gave = record { sized = morning-sized; balances = refl; lines = refl }
 
 -- an accepted open gives as many balances as members
 begun-length : {n : ℕ} {b l : List ℤ} {T : Tables} → Begun n b l T → length b ≡ n
