@@ -1,8 +1,8 @@
 -- The tables before the first line.
+use Prim.Native.Nat.{ℕ}
 use native.Mathlib.Omega.{arith}
 use lib.IntN.{pos}
 use lib.ListN.{length-replicate}
-use Prim.Native.Nat.{ℕ}
 use Rattle.tables.specs.Sizes.{places, table}
 use Rattle.night.specs.Stands.{Sized}
 use Rattle.desk.specs.Sheet.{morning}

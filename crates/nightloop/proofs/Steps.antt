@@ -47,7 +47,7 @@ ready-first z = record {
   read = omega arith;
 }
 
--- nothing was read, and nothing written, whatever the memory holds
+-- nothing was read, and nothing written, whatever the chunk, the line buffer and the output hold
 pub stood-first : {chunk buf out : List ℕ} {t : Tables} → t ≡ morning.tables → SoFar N.Read first chunk buf t out
 stood-first {chunk} {buf} {out = out} {t = t} e = (
   record {
